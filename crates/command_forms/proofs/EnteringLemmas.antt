@@ -38,7 +38,7 @@ use Rattle.command_forms.proofs.ShapeLemmas.{one_shape}
 own : IsNumeralModel (λ ds. list_all is_ascii_digit ds ≡ true) (digits_value 10)
 own = numerals_by_value _ (search rules)
 
-number-decimal : (n : ℕ) → n < 2 ^ 32 → number_of (decimal n) ≡ Some n
+pub number-decimal : (n : ℕ) → n < 2 ^ 32 → number_of (decimal n) ≡ Some n
 number-decimal n low =
     let fits : n < 2 ^ 64 = omega arith in
     let some : 0 < length (decimal n) = decimal_nonempty n fits in
@@ -52,7 +52,7 @@ of_shape name [] shape is some = absurd (omega (arith, some))
 of_shape name (byte ∷ text) shape is some = ap (λ s. data_as s (byte ∷ text)) is
 
 -- the name is of a field that has such values, and the value can be entered
-abbrev IsEntered : Field → Data → Type 0
+abbrev pub IsEntered : Field → Data → Type 0
 IsEntered f null = ⊥
 IsEntered f (boolean b) = shape_named (field_name f) ≡ Flag
 IsEntered f (number (unsigned n)) = (shape_named (field_name f) ≡ Number) × (n < 2 ^ 32)
@@ -77,7 +77,7 @@ value_back f (object ms) is = absurd is
 
 -- ---- the members
 
-abbrev AreEntered : List (Field × Option Data) → Type 0
+abbrev pub AreEntered : List (Field × Option Data) → Type 0
 AreEntered [] = Unit {0}
 AreEntered ((f, None) ∷ es) = AreEntered es
 AreEntered ((f, Some d) ∷ es) = IsEntered f d × AreEntered es
@@ -111,7 +111,7 @@ do_is_text : shape_named (field_name field.Do) ≡ Text
 unfolding is_known
 do_is_text = refl
 
-command_entered : (c : Command) → IsCommand c → CanBeEntered c → AreEntered (command_members c)
+pub command_entered : (c : Command) → IsCommand c → CanBeEntered c → AreEntered (command_members c)
 unfolding action_members IsAction
 command_entered c lawful are =
     ((do_is_text, are.0), members_entered (all_fields (name_of c.action)) (c.key, values_of c.action) (one_shape (name_of c.action)) (lawful.0, lawful.1) are.1)
@@ -136,7 +136,7 @@ data_back c h =
     let r = command_reads c h in
     sym (command_in_json (canonical c) (command_data c) r.utf8 (read-compact_text 3 (command_data c) (omega arith) r)) ∙ reads_back c h
 
-object_entered : (c : Command) → IsCommand c → CanBeEntered c → with_pairs (pairs_of c) no_members ≡ put_all (command_members c) no_members
+pub object_entered : (c : Command) → IsCommand c → CanBeEntered c → with_pairs (pairs_of c) no_members ≡ put_all (command_members c) no_members
 object_entered c lawful are = all_put (command_members c) no_members (command_entered c lawful are)
 
 pairs_entered : (c : Command) → IsCommand c → CanBeEntered c → command_of_pairs (pairs_of c) ≡ Ok c

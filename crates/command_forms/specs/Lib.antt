@@ -3,3 +3,4 @@ pub mod Values
 pub mod Forms
 pub mod Entered
 pub mod Entering
+pub mod Given

@@ -7,8 +7,8 @@ use crate::shape::{Shape, shape_named};
 use serde_json::Value;
 use std::alloc::{AllocError, Global};
 
-// The number that 1 to 10 digits write.
-fn read_digits(text: &[u8]) -> Option<u64>
+/// Returns the number that 1 to 10 digits write. Any other text is no number.
+pub fn read_digits(text: &[u8]) -> Option<u64>
     ensures { result ≡ number_of text.now }
 {
     if text.is_empty() || text.len() > 10 {

@@ -20,14 +20,12 @@ use Rattle.docket_tables.specs.Stands.{Lasts, LastsAsEither}
 use Rattle.docket_store.specs.Asking.{OnlyAnswers}
 use Rattle.docket_wire.specs.declared.fault.WireFault.{WireFault}
 use Rattle.http_request.specs.declared.wish.Wish.{Wish}
-use Rattle.docket_http.specs.Answer.{Response, problem_response}
-use Rattle.docket_http.specs.Asking.{response_to, history_after, asks_docket, takes_memory, Replies, IsAnswered, problem_of_fault}
+use Rattle.docket_http.specs.Answer.{Response}
+use Rattle.docket_http.specs.Asking.{response_to, history_after, asks_docket, takes_memory, Replies, IsAnswered, problem_of_fault, problem_to}
 use Rattle.docket_http.specs.Entering.{Entry, Manner, after_reading, entry_of, fault_response, outcome_response, said_response}
 use Rattle.docket_http.specs.Reply.{IsReply}
-use Rattle.docket_http.specs.declared.problem.Problem.{Problem}
 use Rattle.docket_http.specs.declared.problem.Problem.TheVariants.{NoMemory, Store}
 use Rattle.docket_http.specs.declared.reply.Reply.{Reply}
-use Rattle.docket_http.specs.declared.reply.Reply.TheVariants.{Fixed}
 use Rattle.docket_http.proofs.EntryLemmas.{entering}
 
 said_outcome : (manner : Manner) (c : Command) (said : Result Number Refusal) (a : Answer) → IsSaid said a → said_response manner c said ≡ outcome_response manner c a
@@ -144,12 +142,10 @@ module _ {S : Type 0} (g : Ghosts S) where
   reply_told d h wish body reply replies clean =
       let r = replies clean in (_, r.0, record { problem = None; is = refl; left = r.1 })
 
-  pub problem_told : (d : Docket S) (h : History) (wish : Wish) (body : List ℕ) (f : Fault) (p : Problem) → p ≡ problem_of_fault f → Replies g d h wish body (Err f)
-      → HasCleanDisk (state g d.conn) → Tells d h wish body (Fixed p)
-  problem_told d h wish body fault.NoMemory p e replies clean =
-      subst (λ (q : Problem). Tells d h wish body (Fixed q)) (sym e) (problem_response NoMemory, (refl, refl), record { problem = Some NoMemory; is = refl; left = replies clean })
-  problem_told d h wish body fault.StoreFailed p e replies clean =
-      subst (λ (q : Problem). Tells d h wish body (Fixed q)) (sym e) (problem_response Store, (refl, refl), record { problem = Some Store; is = refl; left = replies })
-  problem_told d h wish body fault.Damaged p e replies clean = absurd (replies clean)
-  problem_told d h wish body fault.Closed p e replies clean = absurd replies
-  problem_told d h wish body (fault.Refused r) p e replies clean = absurd replies
+  pub problem_told : (d : Docket S) (h : History) (wish : Wish) (body : List ℕ) (f : Fault) (reply : Reply) → IsReply reply (problem_to wish (problem_of_fault f)) → Replies g d h wish body (Err f)
+      → HasCleanDisk (state g d.conn) → Tells d h wish body reply
+  problem_told d h wish body fault.NoMemory reply is replies clean = (problem_to wish NoMemory, is, record { problem = Some NoMemory; is = refl; left = replies clean })
+  problem_told d h wish body fault.StoreFailed reply is replies clean = (problem_to wish Store, is, record { problem = Some Store; is = refl; left = replies })
+  problem_told d h wish body fault.Damaged reply is replies clean = absurd (replies clean)
+  problem_told d h wish body fault.Closed reply is replies clean = absurd replies
+  problem_told d h wish body (fault.Refused r) reply is replies clean = absurd replies

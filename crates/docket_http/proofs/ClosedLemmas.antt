@@ -9,7 +9,7 @@ use Rattle.line_io.specs.Output.{AppendsFront}
 use Rattle.http_request.specs.declared.page.Routes.{Routes}
 use Rattle.http_request.specs.declared.wish.Wish.{Wish}
 use Rattle.docket_http.specs.Answer.{Response, response_bytes, problem_response, problem_status}
-use Rattle.docket_http.specs.Asking.{problem_of_fault, IsClosedAnswer, IsClosedReply, RepliesClosed}
+use Rattle.docket_http.specs.Asking.{problem_of_fault, problem_to, IsClosedAnswer, IsClosedReply, RepliesClosed}
 use Rattle.docket_http.specs.Reply.{IsReply, reply_bytes, reply_status}
 use Rattle.docket_http.specs.Serve.{IsAsked, Sends, SendsClosed, ServesClosed}
 use Rattle.docket_http.specs.declared.problem.Problem.{Problem}
@@ -21,12 +21,12 @@ use Rattle.docket_http.specs.declared.fault.ServeFault.TheVariants as serve
 use Rattle.docket_http.specs.declared.sending.Served.{Served}
 
 -- a question whose result is that the docket is closed
-pub closed_told : (wish : Wish) (body : List ℕ) (r : Result Reply Fault) → r ≡ Err fault.Closed → IsClosedAnswer wish body (problem_response Closed) → RepliesClosed wish body r
+pub closed_told : (wish : Wish) (body : List ℕ) (r : Result Reply Fault) → r ≡ Err fault.Closed → IsClosedAnswer wish body (problem_to wish Closed) → RepliesClosed wish body r
 closed_told wish body r is answer = subst (λ (x : Result Reply Fault). RepliesClosed wish body x) (sym is) answer
 
 -- an answer that is built unless memory runs out
 pub closed_built : (wish : Wish) (body : List ℕ) (response : Response) (r : Result Reply Fault) → IfOk r (λ reply. IsReply reply response) → IfErr r (λ f. f ≡ fault.NoMemory)
-    → IsClosedAnswer wish body response → IsClosedAnswer wish body (problem_response NoMemory) → RepliesClosed wish body r
+    → IsClosedAnswer wish body response → IsClosedAnswer wish body (problem_to wish NoMemory) → RepliesClosed wish body r
 closed_built wish body response (Ok reply) is short usual answer = (response, is, usual)
 closed_built wish body response (Err f) is short usual answer = subst (λ (x : Fault). RepliesClosed wish body (Err x)) (sym short) answer
 

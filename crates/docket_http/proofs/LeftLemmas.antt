@@ -1,5 +1,5 @@
 -- What an answer leaves of the docket of a history, whatever was sent.
-use Rattle.std.proofs.Common.{◌≡◌, ◌==◌, ◌⊎◌, inl, inr, ℕ, true, false, List, Option, Some, None, Result, Ok, Err, refl, ap, ◌∙◌}
+use Rattle.std.proofs.Common.{◌≡◌, ◌==◌, ◌⊎◌, inl, inr, ℕ, Bool, true, false, List, Option, Some, None, Result, Ok, Err, refl, ap, ◌∙◌}
 use Rattle.sqlite.specs.Store.{Ghosts}
 use Rattle.court_days.specs.Court.{CourtSettings}
 use Rattle.command_forms.specs.Forms.{command_in_form, pairs_in}
@@ -18,8 +18,8 @@ use Rattle.http_request.specs.declared.fields.Rejection.{Rejection}
 use Rattle.http_request.specs.declared.fields.Rejection.TheVariants as rejection
 use Rattle.http_request.specs.declared.wish.Wish.{Wish}
 use Rattle.http_request.specs.declared.wish.Wish.TheVariants.{Reject, Refuse, Command as CommandWish, Form as FormWish, Preview, Case, Deadlines, Calendar, Holidays, Page as PageWish, Copy}
-use Rattle.docket_http.specs.Answer.{Response, found, rejection_status}
-use Rattle.docket_http.specs.Asking.{IsAnswered, LeftBy, history_after, response_to, text_of_page, told}
+use Rattle.docket_http.specs.Answer.{Response, found, problem_said, rejection_status}
+use Rattle.docket_http.specs.Asking.{IsAnswered, LeftBy, history_after, is_of_pages, response_to, text_of_page, told}
 use Rattle.docket_http.specs.Entering.{Manner, in_json, in_pages, command_response, outcome_response, said_response}
 use Rattle.docket_http.specs.Previews.{outcome_previewed, reading_previewed}
 use Rattle.docket_http.specs.declared.head.Form.{Form}
@@ -88,6 +88,15 @@ response_fine court h (Holidays year) body = refl
 response_fine court h (PageWish page) body = found_fine Html (text_of_page court h page)
 response_fine court h Copy body = refl
 
+-- what is sent in the place of an answer has it if the database failed alone
+short_fine : (browser : Bool) → ((problem_said browser NoMemory).status == 503) ≡ false
+short_fine true = refl
+short_fine false = refl
+
+store_told : (browser : Bool) → ((problem_said browser Store).status == 503) ≡ true
+store_told true = refl
+store_told false = refl
+
 module _ {S : Type 0} (g : Ghosts S) (d : Docket S) (h : History) (wish : Wish) (body : List ℕ) (response : Response) where
   says : {b : _} (other : Response) → response ≡ other → (other.status == 503) ≡ b → (response.status == 503) ≡ b
   says other is fine = ap (λ (r : Response). r.status == 503) is ∙ fine
@@ -98,10 +107,10 @@ module _ {S : Type 0} (g : Ghosts S) (d : Docket S) (h : History) (wish : Wish) 
       ((Stands g d h ⊎ Stands g d (history_after d.court h wish body)) × ((response.status == 503) ≡ false))
       ⊎ (LastsAsEither g d.conn (docket_rows d.court h) (docket_rows d.court (history_after d.court h wish body)) × ((response.status == 503) ≡ true) × (d.closed ≡ true))
 
-  left_by : (problem : Option Problem) → response ≡ told problem (response_to d.court h wish body) → LeftBy g problem d h wish body → Left
+  left_by : (problem : Option Problem) → response ≡ told wish problem (response_to d.court h wish body) → LeftBy g problem d h wish body → Left
   left_by None is left = inl (inr left, says _ is (response_fine d.court h wish body))
-  left_by (Some NoMemory) is left = inl (left.1, says _ is refl)
-  left_by (Some Store) is left = inr (left.1, says _ is refl, left.2)
+  left_by (Some NoMemory) is left = inl (left.1, says _ is (short_fine (is_of_pages wish)))
+  left_by (Some Store) is left = inr (left.1, says _ is (store_told (is_of_pages wish)), left.2)
   left_by (Some (Rejected r)) is left = absurd left
   left_by (Some NoSuchCase) is left = absurd left
   left_by (Some NoCopy) is left = absurd left

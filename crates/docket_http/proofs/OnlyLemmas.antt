@@ -20,21 +20,19 @@ use Rattle.line_io.specs.Output.{AppendsFront}
 use Rattle.http_request.specs.declared.wish.Wish.{Wish}
 use Rattle.http_request.specs.declared.wish.Wish.TheVariants.{Calendar}
 use Rattle.docket_http.specs.Answer.{Response, problem_response}
-use Rattle.docket_http.specs.Asking.{IsClosedAnswer, RepliesClosed, asks_docket, response_to, takes_memory}
+use Rattle.docket_http.specs.Asking.{IsClosedAnswer, RepliesClosed, asks_docket, problem_to, response_to, takes_memory}
 use Rattle.docket_http.specs.Entering.{Entry, entry_of}
 use Rattle.docket_http.specs.Recorded.{IsStill, OnlyReplies, OnlySends, OnlyWrites, RepliesBacked, RepliesTo, WritesNothing}
 use Rattle.docket_http.specs.Reply.{IsReply, reply_bytes, reply_status}
 use Rattle.docket_http.specs.Serve.{IsOfWriting, Sends}
-use Rattle.docket_http.specs.declared.problem.Problem.{Problem}
 use Rattle.docket_http.specs.declared.problem.Problem.TheVariants.{Closed, NoMemory}
 use Rattle.docket_http.specs.declared.reply.Reply.{Reply}
-use Rattle.docket_http.specs.declared.reply.Reply.TheVariants.{Fixed}
 use Rattle.docket_http.specs.declared.fault.ServeFault.{ServeFault}
 use Rattle.docket_http.specs.declared.fault.ServeFault.TheVariants as serve
 use Rattle.docket_http.specs.declared.sending.Served.{Served}
 use Rattle.docket_http.proofs.AskingLemmas.{behind, built_replied, question_replied}
 use Rattle.docket_http.proofs.ClosedLemmas.{closed_built, closed_reply_sent, closed_told}
-use Rattle.docket_http.proofs.RecordedLemmas.{none_backed, problem_backed, sent_backed}
+use Rattle.docket_http.proofs.RecordedLemmas.{none_backed, sent_backed}
 use Rattle.docket_http.proofs.ServeLemmas.{of_writing}
 
 module _ {S : Type 0} (g : Ghosts S) where
@@ -58,7 +56,7 @@ module _ {S : Type 0} (g : Ghosts S) where
       subst (λ (w : Wish). RepliesTo g old d w y r) same_wish (subst (λ (z : List ℕ). RepliesTo g old d a z r) same_body replies)
 
   -- memory ran out while what came was read
-  pub unread : (d : Docket S) (wish : Wish) (body : List ℕ) (r : Result Reply Fault) → IsTrue (takes_memory wish) → IsClosedAnswer wish body (problem_response NoMemory)
+  pub unread : (d : Docket S) (wish : Wish) (body : List ℕ) (r : Result Reply Fault) → IsTrue (takes_memory wish) → IsClosedAnswer wish body (problem_to wish NoMemory)
       → IsErrAnd r (λ f. f ≡ fault.NoMemory) → RepliesTo g d d wish body r
   unread d wish body (Ok reply) takes closed told = absurd told
   unread d wish body (Err f) takes closed told =
@@ -67,7 +65,7 @@ module _ {S : Type 0} (g : Ghosts S) where
 
   -- a question to the docket
   pub question : (old d : Docket S) (asked wish : Wish) (body : List ℕ) (r : Result Reply Fault) → asked ≡ wish → entry_of wish body ≡ None → IsTrue (asks_docket wish) → IsTrue (takes_memory wish)
-      → IsClosedAnswer wish body (problem_response Closed) → OnlyAnswers g old d r
+      → IsClosedAnswer wish body (problem_to wish Closed) → OnlyAnswers g old d r
       → ((h : History) → Stands g old h → Asks g d h (λ reply. IsReply reply (response_to old.court h wish body)) r) → RepliesTo g old d asked body r
   question old d asked wish body r same none asks takes closed only answer = replies_as old d wish asked body body r (sym same) refl (record {
     replies = λ h stands. question_replied g old d h wish body r asks takes (ap (behind d.court h) none) stands only (answer h stands);
@@ -81,23 +79,23 @@ module _ {S : Type 0} (g : Ghosts S) where
 
   -- an answer that needs no docket, and is built unless memory runs out
   pub alone : (d : Docket S) (asked wish : Wish) (body : List ℕ) (response : Response) (r : Result Reply Fault) → asked ≡ wish → entry_of wish body ≡ None → IsTrue (takes_memory wish)
-      → ((court : CourtSettings) (h : History) → response ≡ response_to court h wish body) → IsClosedAnswer wish body response → IsClosedAnswer wish body (problem_response NoMemory)
+      → ((court : CourtSettings) (h : History) → response ≡ response_to court h wish body) → IsClosedAnswer wish body response → IsClosedAnswer wish body (problem_to wish NoMemory)
       → IfOk r (λ reply. IsReply reply response) → IfErr r (λ f. f ≡ fault.NoMemory) → RepliesTo g d d asked body r
   alone d asked wish body response r same none takes usual closed short is failed = replies_as d d wish asked body body r (sym same) refl (record {
     replies = λ h stands. built_replied g d h wish body response r is failed takes (λ clean. (usual d.court h, subst (λ (o : Option Entry). Stands g d (behind d.court h o)) (sym none) stands));
     only = unasked d wish body r (closed_built wish body response r is failed closed short) (none_backed g d wish body r none);
   })
 
-  -- a problem that needs no docket
-  pub at_once : (d : Docket S) (asked wish : Wish) (body : List ℕ) (problem : Problem) → asked ≡ wish → entry_of wish body ≡ None
-      → ((court : CourtSettings) (h : History) → problem_response problem ≡ response_to court h wish body) → IsClosedAnswer wish body (problem_response problem)
-      → RepliesTo g d d asked body (Ok (Fixed problem))
-  at_once d asked wish body problem same none usual closed = replies_as d d wish asked body body (Ok (Fixed problem)) (sym same) refl (record {
+  -- an answer that needs no docket and no memory
+  pub at_once : (d : Docket S) (asked wish : Wish) (body : List ℕ) (response : Response) (reply : Reply) → asked ≡ wish → entry_of wish body ≡ None → IsReply reply response
+      → ((court : CourtSettings) (h : History) → response ≡ response_to court h wish body) → IsClosedAnswer wish body response
+      → RepliesTo g d d asked body (Ok reply)
+  at_once d asked wish body response reply same none is usual closed = replies_as d d wish asked body body (Ok reply) (sym same) refl (record {
     replies = λ h stands clean. (
-      subst (λ (r : Response). IsReply (Fixed problem) r) (usual d.court h) (refl, refl),
+      subst (λ (r : Response). IsReply reply r) (usual d.court h) is,
       subst (λ (o : Option Entry). Stands g d (behind d.court h o)) (sym none) stands,
     );
-    only = unasked d wish body (Ok (Fixed problem)) (problem_response problem, (refl, refl), closed) (problem_backed g d wish body problem);
+    only = unasked d wish body (Ok reply) (response, is, closed) (none_backed g d wish body (Ok reply) none);
   })
 
   -- the writing of a reply

@@ -1,5 +1,5 @@
 -- The reply that is sent to a command is recorded.
-use Rattle.std.proofs.Common.{◌≡◌, ◌⊎◌, ◌≤◌, IfOk, IfErr, IfSome, inl, inr, ℕ, List, Option, Some, None, Result, Ok, Err, refl, subst, sym, arith}
+use Rattle.std.proofs.Common.{◌≡◌, ◌⊎◌, ◌≤◌, IfOk, IfErr, IfSome, inl, inr, ℕ, Bool, true, false, List, Option, Some, None, Result, Ok, Err, refl, subst, sym, arith}
 use Rattle.std.specs.Io.KnownBytes.{Appends}
 use Rattle.sqlite.specs.Store.{Ghosts}
 use Rattle.court_days.specs.Court.{CourtSettings}
@@ -17,7 +17,8 @@ use Rattle.http_request.specs.declared.fields.Rejection.{Rejection}
 use Rattle.http_request.specs.declared.fields.Rejection.TheVariants as rejection
 use Rattle.http_request.specs.declared.page.Routes.{Routes}
 use Rattle.http_request.specs.declared.wish.Wish.{Wish}
-use Rattle.docket_http.specs.Answer.{Response, problem_response, problem_status, rejection_status}
+use Rattle.docket_http.specs.Answer.{Response, problem_response, problem_said, problem_status, rejection_status}
+use Rattle.docket_http.specs.Asking.{is_of_pages, problem_to}
 use Rattle.docket_http.specs.Entering.{Entry, Manner, in_json, in_pages, entry_of, fault_response, said_response}
 use Rattle.docket_http.specs.Recorded.{IsBacked, RepliesBacked, SendsBacked, SentBacked, ServesBacked}
 use Rattle.docket_http.specs.Reply.{IsReply, reply_bytes, reply_status}
@@ -52,6 +53,17 @@ problem_bounds problem.NoMemory = omega arith
 problem_bounds problem.Store = omega arith
 problem_bounds problem.Closed = omega arith
 problem_bounds problem.Damaged = omega arith
+
+-- whoever is told
+said_bounds : (browser : Bool) (p : Problem) → 400 ≤ (problem_said browser p).status
+said_bounds false p = problem_bounds p
+said_bounds true (problem.Rejected r) = rejection_bounds r
+said_bounds true problem.NoSuchCase = omega arith
+said_bounds true problem.NoCopy = omega arith
+said_bounds true problem.NoMemory = omega arith
+said_bounds true problem.Store = omega arith
+said_bounds true problem.Closed = omega arith
+said_bounds true problem.Damaged = omega arith
 
 too_high : (n : ℕ) → 400 ≤ n → (n ≡ 200) ⊎ (n ≡ 303) → ⊥
 too_high n high (inl is) = omega (arith, high, is)
@@ -106,8 +118,8 @@ module _ {S : Type 0} (g : Ghosts S) (d : Docket S) where
   none_backed wish body (Ok reply) none = subst (λ (o : Option Entry). IfSome o (λ e. (response : Response) × IsReply reply response × IsBacked g d e response)) (sym none) tt
   none_backed wish body (Err f) none = tt
 
-  pub problem_backed : (wish : Wish) (body : List ℕ) (p : Problem) → RepliesBacked g d wish body (Fixed p)
-  problem_backed wish body p = each_entry _ (entry_of wish body) (λ e. (problem_response p, (refl, refl), high_backed e _ (problem_bounds p)))
+  pub problem_backed : (wish : Wish) (body : List ℕ) (p : Problem) (reply : Reply) → IsReply reply (problem_to wish p) → RepliesBacked g d wish body reply
+  problem_backed wish body p reply is = each_entry _ (entry_of wish body) (λ e. (problem_to wish p, is, high_backed e _ (said_bounds (is_of_pages wish) p)))
 
   -- the writing of it
 

@@ -19,9 +19,9 @@ use Rattle.line_io.specs.Output.{AppendsFront, HasFront}
 use Rattle.http_request.specs.declared.page.Routes.{Routes}
 use Rattle.http_request.specs.declared.wish.Wish.{Wish}
 use Rattle.http_request.specs.declared.wish.Wish.TheVariants.{Calendar, Copy}
-use Rattle.docket_http.specs.Answer.{fine, response_bytes, problem_response, head_bytes}
+use Rattle.docket_http.specs.Answer.{fine, response_bytes, problem_response, problem_status, head_bytes}
 use Rattle.docket_http.specs.Asking.{problem_of_fault}
-use Rattle.docket_http.specs.Reply.{reply_bytes, reply_status}
+use Rattle.docket_http.specs.Reply.{IsReply, reply_bytes, reply_status}
 use Rattle.docket_http.specs.Serve.{Begins, Delivers, IsServed, IsCut, IsBroken, IsAsked, IsOfWriting, Serves, Fails, WantsCopy, fault_of_broken}
 use Rattle.docket_http.specs.declared.head.Form.TheVariants.{OpenText}
 use Rattle.docket_http.specs.declared.problem.Problem.{Problem}
@@ -130,7 +130,8 @@ module _ {S : Type 0} (g : Ghosts S) where
   pub calendar_told : (d : Docket S) (h : History) (from to : ℕ) (body front : List ℕ) (o m : Option (List ℕ)) (f : Fault) (p : Problem) → p ≡ problem_of_fault f → (f ≡ fault.StoreFailed → d.closed ≡ true)
       → Lists g d h from to front o m (Err (listing.NotBegun f)) → HasCleanDisk (state g d.conn) → Tells g d h (Calendar from to) body (Fixed p) × Appends o m []
   calendar_told d h from to body front o m f p e closes lists clean =
-      (problem_told g d h (Calendar from to) body f p e (asked_replied g d h (Calendar from to) body f (λ (lines : ℕ). ⊥) refl refl refl closes lists.0) clean, lists.1 clean)
+      let reports : IsReply (Fixed p) (problem_response (problem_of_fault f)) = (ap (λ q. response_bytes (problem_response q)) e, ap problem_status e) in
+      (problem_told g d h (Calendar from to) body f (Fixed p) reports (asked_replied g d h (Calendar from to) body f (λ (lines : ℕ). ⊥) refl refl refl closes lists.0) clean, lists.1 clean)
 
   -- the bytes of a calendar's answer
   calendar_bytes : (court : CourtSettings) (h : History) (from to : ℕ) (front : List ℕ) → ((len : ℕ) → front ≡ head_bytes 200 OpenText len)

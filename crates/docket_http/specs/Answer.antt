@@ -1,5 +1,5 @@
 -- The bytes of an answer: a status line and two to five fields, each ended by CR LF, an empty line, and the body.
-use Rattle.std.specs.Prelude.{ℕ, List, [], ◌∷◌, ◌++◌, length, Option, Some, None, codes, decimal}
+use Rattle.std.specs.Prelude.{ℕ, Bool, true, false, List, [], ◌∷◌, ◌++◌, length, Option, Some, None, codes, decimal}
 use Rattle.http.specs.StatusCode.{status_text}
 use Rattle.http_request.specs.declared.fields.Rejection.{Rejection}
 use Rattle.http_request.specs.declared.fields.Rejection.TheVariants.{HeadTooLong, BadHead, NotFound, Method, BadPathValue, LengthRequired, TooLong, Foreign, MediaType}
@@ -137,6 +137,29 @@ refusal_page rejection = page (rejection_status rejection) (text_page (codes "Re
 abbrev pub missing : Form → Response
 missing Html = page 404 (text_page (codes "Not found") (codes "There is no such case, or the case has no such deadline."))
 missing _ = problem_response NoSuchCase
+
+-- a page of a sentence that says what to do where the server fails: small and without a style, so that writing it takes no memory
+abbrev pub failure_page : ℕ → List ℕ → Response
+failure_page status sentence =
+    page status (
+    codes "<!DOCTYPE html>\n<html lang=\"en\">\n<head>\n<meta charset=\"utf-8\">\n<title>Not answered</title>\n</head>\n<body>\n<h1>Not answered</h1>\n<p>"
+    ++ (sentence
+    ++ codes "</p>\n<p><a href=\"/pages/cases\">Cases</a></p>\n</body>\n</html>\n"))
+
+-- the page of a problem
+abbrev pub problem_page : Problem → Response
+problem_page (Rejected rejection) = refusal_page rejection
+problem_page NoSuchCase = missing Html
+problem_page NoCopy = failure_page 500 (codes "No copy was made. Ask for it again.")
+problem_page NoMemory = failure_page 500 (codes "The server has too little memory for this. Try again: a form that is sent again is entered once.")
+problem_page Store = failure_page 503 (codes "The disk or the database failed, and the server has stopped. Tell who runs it. Then send a form again: it is entered once.")
+problem_page Closed = failure_page 503 (codes "The database failed before, and the server has stopped. Tell who runs it. Then send a form again: it is entered once.")
+problem_page Damaged = failure_page 503 (codes "The docket is damaged, and the server has stopped. Tell who runs it: docketctl check says more.")
+
+-- a problem as it is told: to a browser by its page, else as JSON
+abbrev pub problem_said : Bool → Problem → Response
+problem_said true p = problem_page p
+problem_said false p = problem_response p
 
 -- the text of a question in that form, if what it asks about exists
 abbrev pub found : Form → Option (List ℕ) → Response

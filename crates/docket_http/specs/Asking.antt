@@ -27,7 +27,7 @@ use Rattle.http_request.specs.declared.page.Page.{Page}
 use Rattle.http_request.specs.declared.page.Page.TheVariants as page
 use Rattle.http_request.specs.declared.wish.Wish.{Wish}
 use Rattle.http_request.specs.declared.wish.Wish.TheVariants.{Reject, Refuse, Command as CommandWish, Form as FormWish, Preview, Case, Deadlines, Calendar, Holidays, Page as PageWish, Copy}
-use Rattle.docket_http.specs.Answer.{Response, fine, found, problem_response, refusal_page}
+use Rattle.docket_http.specs.Answer.{Response, fine, found, problem_page, problem_response, problem_said, refusal_page}
 use Rattle.docket_http.specs.Due.{due_days, list_of}
 use Rattle.docket_http.specs.Entering.{after_reading, closed_entry, entry_of, entry_response, form_entry, line_entry}
 use Rattle.docket_http.specs.Previews.{preview_response}
@@ -70,7 +70,7 @@ response_to court h (Deadlines number) body = found Text (text_of_deadlines cour
 response_to court h (Calendar from to) body = fine OpenText (text_of_calendar court h from to)
 response_to court h (Holidays year) body = fine Text (holiday_text year)
 response_to court h (PageWish page) body = found Html (text_of_page court h page)
-response_to court h Copy body = problem_response NoCopy
+response_to court h Copy body = problem_page NoCopy
 
 -- the history after the request: only a command that it enters adds to it
 abbrev pub history_after : CourtSettings → History → Wish → List ℕ → History
@@ -118,10 +118,28 @@ IsBuilt (Holidays year) = Unit {0}
 IsBuilt (PageWish page) = Unit {0}
 IsBuilt Copy = Unit {0}
 
--- the answer, or the problem that is sent in its place
-abbrev pub told : Option Problem → Response → Response
-told None response = response
-told (Some problem) response = problem_response problem
+-- whether the request is for what stands behind "/pages", so that its answer is for a browser
+abbrev pub is_of_pages : Wish → Bool
+is_of_pages (Reject rejection) = false
+is_of_pages (Refuse rejection) = true
+is_of_pages (CommandWish len) = false
+is_of_pages (FormWish len fresh) = true
+is_of_pages (Preview len fresh) = true
+is_of_pages (Case number) = false
+is_of_pages (Deadlines number) = false
+is_of_pages (Calendar from to) = false
+is_of_pages (Holidays year) = false
+is_of_pages (PageWish page) = true
+is_of_pages Copy = true
+
+-- the problem that is sent in the place of an answer: a page to a browser, else JSON
+abbrev pub problem_to : Wish → Problem → Response
+problem_to wish p = problem_said (is_of_pages wish) p
+
+-- the answer, or that problem
+abbrev pub told : Wish → Option Problem → Response → Response
+told wish None response = response
+told wish (Some problem) response = problem_to wish problem
 
 module _ {S : Type 0} (g : Ghosts S) where
   -- what remains of the docket after this was sent: with the answer, the docket that it reports; if memory ran out, that or the docket
@@ -146,32 +164,32 @@ module _ {S : Type 0} (g : Ghosts S) where
   -- an answer to a request, and what it leaves
   pub record IsAnswered (d : Docket S) (h : History) (wish : Wish) (body : List ℕ) (response : Response) : Type 0 where
     pub problem : Option Problem
-    pub is : response ≡ told problem (response_to d.court h wish body)
+    pub is : response ≡ told wish problem (response_to d.court h wish body)
     pub left : LeftBy problem d h wish body
 
--- this answer, or that memory ran out
-abbrev pub IsUnlessShort : Response → Response → Type 0
-IsUnlessShort usual response = (response ≡ usual) ⊎ (response ≡ problem_response NoMemory)
+-- this answer, or that memory ran out, which a browser gets as a page
+abbrev pub IsUnlessShort : Bool → Response → Response → Type 0
+IsUnlessShort browser usual response = (response ≡ usual) ⊎ (response ≡ problem_said browser NoMemory)
 
 abbrev pub IsClosedPage : Page → Response → Type 0
-IsClosedPage page.Kinds response = IsUnlessShort (fine Html (kinds_page saying.nothing)) response
-IsClosedPage (page.Enter kind about fresh) response = IsUnlessShort (fine Html (form_about kind fresh about)) response
-IsClosedPage _ response = response ≡ problem_response Closed
+IsClosedPage page.Kinds response = IsUnlessShort true (fine Html (kinds_page saying.nothing)) response
+IsClosedPage (page.Enter kind about fresh) response = IsUnlessShort true (fine Html (form_about kind fresh about)) response
+IsClosedPage _ response = response ≡ problem_page Closed
 
 -- the answer on a closed docket: a request that needs the docket gets that it is closed, and any other its usual answer. Memory may run out
 -- while a command is read, or a page or holidays are written
 abbrev pub IsClosedAnswer : Wish → List ℕ → Response → Type 0
 IsClosedAnswer (Reject rejection) body response = response ≡ problem_response (Rejected rejection)
-IsClosedAnswer (Refuse rejection) body response = IsUnlessShort (refusal_page rejection) response
-IsClosedAnswer (CommandWish len) body response = IsUnlessShort (closed_entry (line_entry body)) response
-IsClosedAnswer (FormWish len fresh) body response = IsUnlessShort (closed_entry (form_entry fresh body)) response
-IsClosedAnswer (Preview len fresh) body response = IsUnlessShort (closed_entry (form_entry fresh body)) response
+IsClosedAnswer (Refuse rejection) body response = IsUnlessShort true (refusal_page rejection) response
+IsClosedAnswer (CommandWish len) body response = IsUnlessShort false (closed_entry (line_entry body)) response
+IsClosedAnswer (FormWish len fresh) body response = IsUnlessShort true (closed_entry (form_entry fresh body)) response
+IsClosedAnswer (Preview len fresh) body response = IsUnlessShort true (closed_entry (form_entry fresh body)) response
 IsClosedAnswer (Case number) body response = response ≡ problem_response Closed
 IsClosedAnswer (Deadlines number) body response = response ≡ problem_response Closed
 IsClosedAnswer (Calendar from to) body response = response ≡ problem_response Closed
 IsClosedAnswer (PageWish page) body response = IsClosedPage page response
-IsClosedAnswer Copy body response = response ≡ problem_response NoCopy
-IsClosedAnswer (Holidays year) body response = IsUnlessShort (fine Text (holiday_text year)) response
+IsClosedAnswer Copy body response = response ≡ problem_page NoCopy
+IsClosedAnswer (Holidays year) body response = IsUnlessShort false (fine Text (holiday_text year)) response
 
 -- the reply of a closed docket, and its result before a fault is sent as a problem
 abbrev pub IsClosedReply : Wish → List ℕ → Reply → Type 0
@@ -179,4 +197,4 @@ IsClosedReply wish body reply = (response : Response) × IsReply reply response 
 
 abbrev pub RepliesClosed : Wish → List ℕ → Result Reply Fault → Type 0
 RepliesClosed wish body (Ok reply) = IsClosedReply wish body reply
-RepliesClosed wish body (Err fault) = IsClosedAnswer wish body (problem_response (problem_of_fault fault))
+RepliesClosed wish body (Err fault) = IsClosedAnswer wish body (problem_to wish (problem_of_fault fault))

@@ -1,5 +1,5 @@
 -- Requests that enter a command: which command each spells, and how its outcome is written.
-use Rattle.std.specs.Prelude.{ℕ, List, Option, Some, None, Result, Ok, Err}
+use Rattle.std.specs.Prelude.{ℕ, Bool, true, false, List, Option, Some, None, Result, Ok, Err}
 use Rattle.court_days.specs.Court.{CourtSettings}
 use Rattle.command_forms.specs.Forms.{command_in_form, pairs_in, texts_of}
 use Rattle.docket_command.specs.declared.command.Command.{Command}
@@ -14,7 +14,7 @@ use Rattle.entry_pages.specs.Pages.{form_again}
 use Rattle.entry_pages.specs.Saying as saying
 use Rattle.http_request.specs.declared.wish.Wish.{Wish}
 use Rattle.http_request.specs.declared.wish.Wish.TheVariants.{Command as CommandWish, Form as FormWish}
-use Rattle.docket_http.specs.Answer.{Response, json, page, problem_response, seen}
+use Rattle.docket_http.specs.Answer.{Response, json, page, problem_said, seen}
 use Rattle.docket_http.specs.Places.{place_after}
 use Rattle.docket_http.specs.declared.problem.Problem.TheVariants.{Closed}
 use Rattle.docket_http.specs.declared.writing.Writing.{Writing}
@@ -65,9 +65,14 @@ abbrev pub after_reading : CourtSettings → History → Result Command WireFaul
 after_reading court h (Ok c) = after court h c
 after_reading court h (Err fault) = h
 
+-- whether an outcome is written for a browser
+abbrev pub is_for_browser : Manner → Bool
+is_for_browser in_json = false
+is_for_browser (in_pages fresh pairs) = true
+
 -- a closed docket takes no command; the answer where none is spelled is the same
 abbrev pub closed_response : Manner → Result Command WireFault → Response
-closed_response manner (Ok c) = problem_response Closed
+closed_response manner (Ok c) = problem_said (is_for_browser manner) Closed
 closed_response manner (Err fault) = fault_response manner fault
 
 -- what a request enters: the command that it spells, or the fault of its text; and how the outcome is written

@@ -11,7 +11,7 @@ use Rattle.http_request.specs.Request.{IsRequest, EndsEarly}
 use Rattle.http_request.specs.declared.page.Routes.{Routes}
 use Rattle.http_request.specs.declared.wish.Wish.{Wish}
 use Rattle.http_request.specs.declared.wish.Wish.TheVariants.{Copy}
-use Rattle.docket_http.specs.Answer.{Response, fine, response_bytes, problem_response}
+use Rattle.docket_http.specs.Answer.{Response, fine, response_bytes, problem_page, problem_response}
 use Rattle.docket_http.specs.Asking.{IsAnswered, IsBuilt, IsClosedAnswer, LeftBy, response_to}
 use Rattle.docket_http.specs.declared.head.Form.TheVariants.{File}
 use Rattle.docket_http.specs.declared.problem.Problem.TheVariants.{NoCopy, NoMemory, Store}
@@ -48,8 +48,8 @@ Sends response before after (Err _) = ⊥
 
 -- the answer if a copy of the docket's file was made, and if none was; memory may run out for the head of a copy
 abbrev pub IsCopyAnswer : Option (List ℕ) → Response → Type 0
-IsCopyAnswer None response = response ≡ problem_response NoCopy
-IsCopyAnswer (Some copy) response = (response ≡ fine File copy) ⊎ (response ≡ problem_response NoMemory)
+IsCopyAnswer None response = response ≡ problem_page NoCopy
+IsCopyAnswer (Some copy) response = (response ≡ fine File copy) ⊎ (response ≡ problem_page NoMemory)
 
 -- such an answer went out, or a front of it
 pub record SendsCopy (copy : Option (List ℕ)) (before after : Option (List ℕ)) (result : Result Served ServeFault) : Type 0 where

@@ -13,9 +13,10 @@ ghost use Rattle.docket_http.specs.Reply.{IsReply};
 
 use crate::asking::{page_reply, question_reply};
 use crate::commands::{command_reply, form_reply};
+use crate::failure::{Failure, failure_reply};
 use crate::head::Form;
 use crate::previews::preview_reply;
-use crate::problem::{Problem, problem_of};
+use crate::problem::Problem;
 use crate::refusing::refusal_reply;
 use crate::reply::{Reply, fine_reply};
 use docket_questions::{CaseText, DeadlinesText};
@@ -52,7 +53,7 @@ fn reply_to<S: Alter>(
         Wish::Calendar(..) => Ok(Reply::Fixed(Problem::Damaged)),
         Wish::Holidays(year) => fine_reply(alloc, Form::Text, holiday_text(alloc, year)),
         // Reached only if the docket is closed: else `serve_one` returns that a copy is wanted.
-        Wish::Copy => Ok(Reply::Fixed(Problem::NoCopy)),
+        Wish::Copy => Ok(Reply::Shown(Failure::NoCopy)),
     }
 }
 
@@ -68,6 +69,6 @@ pub(crate) fn reply_of<S: Alter>(alloc: Global, docket: &mut Docket<S>, request:
 {
     match reply_to(alloc, docket, request) {
         Ok(reply) => reply,
-        Err(fault) => Reply::Fixed(problem_of(fault)),
+        Err(fault) => failure_reply(&request.wish, fault),
     }
 }

@@ -4,8 +4,8 @@ ghost use Rattle.docket_http.specs.Answer.{Response};
 ghost use Rattle.docket_http.specs.Reply.{IsReply};
 ghost use Rattle.docket_http.specs.Serve.{IsCopyAnswer, SendsCopy};
 
+use crate::failure::Failure;
 use crate::fault::ServeFault;
-use crate::problem::Problem;
 use crate::reply::{Reply, file_reply};
 use crate::sending::{Served, send};
 use std::alloc::Global;
@@ -18,9 +18,9 @@ fn copy_reply(alloc: Global, copy: Option<Vec<u8>>) -> Reply
     match copy {
         Some(bytes) => match file_reply(alloc, bytes) {
             Ok(reply) => reply,
-            Err(_) => Reply::Fixed(Problem::NoMemory),
+            Err(_) => Reply::Shown(Failure::NoMemory),
         },
-        None => Reply::Fixed(Problem::NoCopy),
+        None => Reply::Shown(Failure::NoCopy),
     }
 }
 

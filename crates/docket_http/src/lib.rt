@@ -15,6 +15,7 @@ mod calendar;
 mod commands;
 mod copies;
 mod due;
+mod failure;
 mod fault;
 mod head;
 mod laws;

@@ -6,6 +6,7 @@ ghost use Rattle.docket_http.specs.Answer.{fine, json, page};
 ghost use Rattle.docket_http.specs.Reply.{IsReply, reply_status};
 ghost use Rattle.docket_http.specs.declared.head.Form.TheVariants.{File};
 
+use crate::failure::Failure;
 use crate::head::{Form, Head};
 use crate::problem::Problem;
 use docket_store::Fault;
@@ -29,6 +30,8 @@ pub(crate) enum Reply {
     },
     /// One that reports a problem.
     Fixed(Problem),
+    /// A page that says to a browser that the server fails.
+    Shown(Failure),
 }
 
 impl Reply {
@@ -39,6 +42,7 @@ impl Reply {
             Reply::Built { status, .. } => *status,
             Reply::File { .. } => StatusCode::OK,
             Reply::Fixed(problem) => problem.status(),
+            Reply::Shown(failure) => failure.status(),
         }
     }
 }

@@ -34,6 +34,7 @@ fn write_reply<W: Write>(writer: &mut W, reply: &Reply) -> Result<(), WriteFaile
         Reply::Built { head, body, .. } => write_parts(writer, head.as_bytes(), body.as_bytes()),
         Reply::File { head, body } => write_parts(writer, head.as_bytes(), body.as_slice()),
         Reply::Fixed(problem) => write_bytes(writer, problem.answer()),
+        Reply::Shown(failure) => write_bytes(writer, failure.page()),
     }
 }
 

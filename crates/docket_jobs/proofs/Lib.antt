@@ -1,3 +1,4 @@
+pub mod EntryLemmas
 pub mod LineLemmas
 pub mod MatchLemmas
 pub mod ReadingLemmas

@@ -49,6 +49,13 @@ create_line = with_rule (with_rule (with_rule (new_app (codes "create")) (requir
 unfoldable pub run_line : App
 run_line = with_rule (with_rule (with_rule (new_app (codes "run")) file_rule) (with_default (codes "UTC0") zone_rule)) (with_default (codes "17:00") close_rule)
 
+-- `enter` as help lists it; what follows a kind is read by the line of that kind (`entry_line`)
+unfoldable pub enter_line : App
+enter_line = with_rule (new_app (codes "enter")) (optional (place_rule (codes "kind")))
+
+unfoldable pub commands_line : App
+commands_line = with_rule (new_app (codes "commands")) (optional (place_rule (codes "kind")))
+
 unfoldable pub import_line : App
 import_line = with_rule (with_rule (new_app (codes "import")) (required file_rule)) (required (option_rule (codes "key")))
 
@@ -59,7 +66,8 @@ unfoldable pub cases_line : App
 cases_line = with_rule (with_rule (with_rule (new_app (codes "cases")) (required file_rule)) (option_rule (codes "label"))) (option_rule (codes "party"))
 
 unfoldable pub calendar_line : App
-calendar_line = with_rule (with_rule (with_rule (new_app (codes "calendar")) (required file_rule)) (place_rule (codes "from"))) (place_rule (codes "to"))
+calendar_line =
+    with_rule (with_rule (with_rule (with_rule (with_rule (with_rule (new_app (codes "calendar")) (required file_rule)) (flag_rule (codes "today"))) (flag_rule (codes "week"))) (flag_rule (codes "overdue"))) (optional (place_rule (codes "from")))) (optional (place_rule (codes "to")))
 
 unfoldable pub export_line : App
 export_line =
@@ -93,7 +101,7 @@ bare_line = on_top (λ top. record top { has_version = true }) (new_app (codes "
 
 -- with the subcommands that enter something, or take what is entered
 abbrev pub with_entering : App → App
-with_entering line = with_subcommand (with_subcommand (with_subcommand (with_subcommand line count_line.top) create_line.top) run_line.top) import_line.top
+with_entering line = with_subcommand (with_subcommand (with_subcommand (with_subcommand (with_subcommand (with_subcommand line count_line.top) create_line.top) run_line.top) enter_line.top) commands_line.top) import_line.top
 
 -- with those that show cases and deadlines
 abbrev pub with_telling : App → App

@@ -1,12 +1,13 @@
 -- The job that a command line asks for: that of its subcommand, with the values that clap finds in the words.
-use Rattle.std.specs.Prelude.{ℕ, ◌==◌, ◌&&◌, ◌||◌, not, nat_eq, Bool, true, false, List, [], ◌∷◌, length, codes, nat_le, nat_lt, Option, Some, None, is_some, option_copied, option_map, option_and_then, unwrap_or, get_or, if◌then◌else◌, ⊤}
+use Rattle.std.specs.Prelude.{ℕ, ◌==◌, ◌&&◌, ◌||◌, not, nat_eq, Bool, true, false, List, [], ◌∷◌, length, drop, codes, nat_le, nat_lt, slice_get, Option, Some, None, is_some, option_copied, option_map, option_and_then, unwrap_or, get_or, if◌then◌else◌, ⊤}
 use Rattle.std.specs.Char.{is_ascii_digit}
 use Rattle.std.specs.Int.{IsInRange}
 use Rattle.std.specs.List.{list_all, starts_with}
+use Rattle.std.specs.Option.{option_map_or}
 use Rattle.std.specs.Str.{bytes_eq}
 use Rattle.std.specs.Str.Parse.{digits_value}
 use Rattle.clap.specs.Walk.{Row, Text, first_of}
-use Rattle.clap.specs.Simple.{subcommand_of}
+use Rattle.clap.specs.Simple.{matches_of, subcommand_of}
 use Rattle.clap.specs.Faults.{fault_of}
 use Rattle.clap.specs.Kinds.{Kinds, or_else}
 use Rattle.clap.specs.declared.error.kind.ErrorKind.TheVariants.{ValueValidation}
@@ -17,9 +18,19 @@ use Rattle.civil_time.specs.ZoneText.{zone_at}
 use Rattle.court_days.specs.Court.{CourtSettings}
 use Rattle.patient_stream.specs.declared.place.Place.{Place}
 use Rattle.patient_stream.specs.declared.place.Place.TheVariants as place
+use Rattle.docket_command.specs.declared.command_name.CommandName.{CommandName}
+use Rattle.docket_command.specs.declared.command_name.CommandName.TheVariants.{ImportCalendar}
+use Rattle.docket_command.specs.declared.field.Field.{Field}
+use Rattle.docket_command.specs.Fields.{field_name}
+use Rattle.docket_command.specs.Names.{command_named}
+use Rattle.docket_command.specs.Schema.{FieldSpec, field_of, fields_of}
+use Rattle.command_forms.specs.Given.{texts_given}
 use Rattle.due_exports.specs.declared.form.Form.{Form}
 use Rattle.due_exports.specs.declared.form.Form.TheVariants as form
 use Rattle.docket_jobs.specs.CommandLine.{docketctl}
+use Rattle.docket_jobs.specs.EntryLine.{entry_line}
+use Rattle.docket_jobs.specs.declared.due.Due.{Due}
+use Rattle.docket_jobs.specs.declared.due.Due.TheVariants.{Today, Week, Overdue}
 use Rattle.docket_jobs.specs.declared.job.Job.{Job}
 use Rattle.docket_jobs.specs.declared.job.Job.TheVariants as job
 
@@ -38,10 +49,13 @@ pub data Asked : Type 0 where
   to_create : Text → CourtSettings → Asked
   to_run : Text → Asked
   to_run_in_memory : CourtSettings → Asked
+  to_enter : Text → Option Text → Bool → CommandName → List (Field × Text) → Asked
+  to_tell_commands : Option CommandName → Asked
   to_import : Text → Text → Asked
   to_tell_case : Text → ℕ → Asked
   to_tell_cases : Text → Option Text → Option Text → Asked
   to_tell_calendar : Text → ℕ → ℕ → Asked
+  to_tell_due : Text → Due → Asked
   to_export : Text → ℕ → ℕ → Form → Asked
   to_tell_sheet : Text → ℕ → Asked
   to_explain : Text → ℕ → ℕ → Asked
@@ -59,10 +73,13 @@ asked job.Count = to_count
 asked (job.Create file court) = to_create file.now court
 asked (job.Run file) = to_run file.now
 asked (job.RunInMemory court) = to_run_in_memory court
+asked (job.Enter file key show kind given) = to_enter file.now (option_copied key) show kind (texts_given given.items)
+asked (job.Commands kind) = to_tell_commands kind
 asked (job.Import file key) = to_import file.now key.now
 asked (job.Case file number) = to_tell_case file.now number
 asked (job.Cases file label party) = to_tell_cases file.now (option_copied label) (option_copied party)
 asked (job.Calendar file from to) = to_tell_calendar file.now from to
+asked (job.CalendarOf file due) = to_tell_due file.now due
 asked (job.Export file from to form) = to_export file.now from to form
 asked (job.Sheet file number) = to_tell_sheet file.now number
 asked (job.Explain file case deadline) = to_explain file.now case deadline
@@ -135,6 +152,14 @@ run_if None court = option_map to_run_in_memory court
 abbrev pub run_asked : List Row → Option Asked
 run_asked found = run_if (first_of (codes "db") found) (court_asked found)
 
+-- all kinds of commands, or the one that a word names
+abbrev pub commands_if : Option Text → Option Asked
+commands_if None = Some (to_tell_commands None)
+commands_if (Some word) = option_map (λ kind. to_tell_commands (Some kind)) (command_named word)
+
+abbrev pub commands_asked : List Row → Option Asked
+commands_asked found = commands_if (first_of (codes "kind") found)
+
 abbrev pub import_asked : List Row → Asked
 import_asked found = to_import (value_of (codes "db") found) (value_of (codes "key") found)
 
@@ -153,8 +178,24 @@ days_if ask _ _ = None
 abbrev pub days_asked : (ℕ → ℕ → Asked) → Text → Text → Option Asked
 days_asked ask from to = days_if ask (day_of_text from) (day_of_text to)
 
+-- none of the flags `--today`, `--week` and `--overdue`, or one of them
+abbrev pub due_of : Bool → Bool → Bool → Option (Option Due)
+due_of false false false = Some None
+due_of true false false = Some (Some Today)
+due_of false true false = Some (Some Week)
+due_of false false true = Some (Some Overdue)
+due_of _ _ _ = None
+
+-- two days go without a flag, and a flag without them
+abbrev pub calendar_if : Text → Option (Option Due) → Option Text → Option Text → Option Asked
+calendar_if file (Some None) (Some from) (Some to) = days_asked (to_tell_calendar file) from to
+calendar_if file (Some (Some due)) None None = Some (to_tell_due file due)
+calendar_if file _ _ _ = None
+
 abbrev pub calendar_asked : List Row → Option Asked
-calendar_asked found = days_asked (to_tell_calendar (value_of (codes "db") found)) (value_of (codes "from") found) (value_of (codes "to") found)
+calendar_asked found =
+    calendar_if (value_of (codes "db") found) (due_of (flag_of (codes "today") found) (flag_of (codes "week") found) (flag_of (codes "overdue") found))
+    (first_of (codes "from") found) (first_of (codes "to") found)
 
 -- the format that a word names
 abbrev pub form_of : Text → Option Form
@@ -253,11 +294,13 @@ holidays_if _ _ _ = None
 abbrev pub holidays_asked : List Row → Option Asked
 holidays_asked found = holidays_if (first_of (codes "db") found) (value_of (codes "year") found) (first_of (codes "to") found)
 
--- what a subcommand asks for with what was found for it; the last is `count`
+-- what a subcommand asks for with what was found for it: `enter` nothing without a kind, and the last is `count`
 abbrev pub asked_by : Text → List Row → Option Asked
 asked_by name found =
     if bytes_eq name (codes "create") then create_asked found
     else (if bytes_eq name (codes "run") then run_asked found
+    else (if bytes_eq name (codes "enter") then None
+    else (if bytes_eq name (codes "commands") then commands_asked found
     else (if bytes_eq name (codes "import") then Some (import_asked found)
     else (if bytes_eq name (codes "case") then case_asked found
     else (if bytes_eq name (codes "cases") then Some (cases_asked found)
@@ -270,20 +313,75 @@ asked_by name found =
     else (if bytes_eq name (codes "serve") then serve_asked found
     else (if bytes_eq name (codes "rules") then Some (rules_asked found)
     else (if bytes_eq name (codes "holidays") then holidays_asked found
-    else Some to_count)))))))))))))
+    else Some to_count)))))))))))))))
 
 -- with no subcommand docketctl counts
 abbrev pub asked_in : Option (Text × List Row) → Option Asked
 asked_in None = Some to_count
 asked_in (Some met) = asked_by met.0 met.1
 
+abbrev pub line_asked : List Text → Option Asked
+line_asked words = asked_in (subcommand_of docketctl words)
+
+-- ---- `docketctl enter KIND ..`
+
+-- the text of a field, where one was found, before those of the fields behind it
+abbrev pub text_before : Field → Option Text → List (Field × Text) → List (Field × Text)
+text_before f None texts = texts
+text_before f (Some text) texts = (f, text) ∷ texts
+
+-- the texts found for fields, in their order; of a flag there is one always, `true` or `false`
+abbrev pub texts_found : List FieldSpec → List Row → List (Field × Text)
+texts_found [] found = []
+texts_found (s ∷ ss) found = text_before (field_of s) (first_of (field_name (field_of s)) found) (texts_found ss found)
+
+abbrev pub entry_asked : CommandName → List Row → Asked
+entry_asked kind found =
+    to_enter (value_of (codes "db") found) (first_of (codes "key") found) (flag_of (codes "show") found) kind (texts_found (fields_of kind) found)
+
+abbrev pub is_table : CommandName → Bool
+is_table ImportCalendar = true
+is_table _ = false
+
+abbrev pub kind_if : CommandName → Option CommandName
+kind_if kind = if is_table kind then None else Some kind
+
+-- the kind of what is entered, which a word names; a table of days is entered by `import` alone
+abbrev pub kind_entered : Text → Option CommandName
+kind_entered word = option_and_then kind_if (command_named word)
+
+-- the word at a place, and an empty one where there is none
+abbrev pub word_at : ℕ → List Text → Text
+word_at place words = unwrap_or (slice_get words place) []
+
+-- a word is behind `enter`, and no option
+abbrev pub is_entry : List Text → Bool
+is_entry words = bytes_eq (word_at 1 words) (codes "enter") && not (get_or (word_at 2 words) 0 45 == 45)
+
+-- the words from the kind on are read by the line of that kind
+abbrev pub asked_behind : Text → List Text → Option Asked
+asked_behind word words = option_map (λ kind. entry_asked kind (matches_of (entry_line kind) words)) (kind_entered word)
+
+abbrev pub faults_behind : Text → List Text → Kinds
+faults_behind word words = option_map_or (λ kind. fault_of (entry_line kind) words) (kind_entered word) []
+
+-- ---- all command lines
+
 -- what the words ask for, if they are a command line and their values lie in their limits
 abbrev pub asked_of : List Text → Option Asked
-asked_of words = asked_in (subcommand_of docketctl words)
+asked_of words = if is_entry words then asked_behind (word_at 2 words) (drop 2 words) else line_asked words
+
+-- the kinds of error that clap reports for the words
+abbrev pub faults_of : List Text → Kinds
+faults_of words = if is_entry words then faults_behind (word_at 2 words) (drop 2 words) else fault_of docketctl words
+
+-- those, or else that of a bad value where nothing is asked for
+abbrev pub or_bad_value : Kinds → Option Asked → Kinds
+or_bad_value kinds found = or_else kinds (if is_some found then [] else ValueValidation ∷ [])
 
 -- the kind of error that is reported for the words, none where they ask for a job
 abbrev pub line_faults : List Text → Kinds
-line_faults words = or_else (fault_of docketctl words) (if is_some (asked_of words) then [] else ValueValidation ∷ [])
+line_faults words = or_bad_value (faults_of words) (asked_of words)
 
 -- a year is one from 2000 to 2099
 abbrev pub IsLimited : Job → Type 0

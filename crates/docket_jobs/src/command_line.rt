@@ -2,12 +2,12 @@
 ghost use Rattle.std.specs.Prelude.{◌≡◌, false, IfOk};
 ghost use Rattle.clap.specs.Walk.{rule_of};
 ghost use Rattle.clap.specs.Simple.{App, new_app, with_subcommand};
-ghost use Rattle.docket_jobs.specs.CommandLine.{option_rule, flag_rule, required, optional, with_default, place_rule, HasLine, count_line, create_line, run_line, import_line, case_line, cases_line, calendar_line, export_line, explain_line, check_line, backup_line, migrate_line, serve_line, rules_line, holidays_line, bare_line, with_entering, with_telling, with_keeping, docketctl};
+ghost use Rattle.docket_jobs.specs.CommandLine.{option_rule, flag_rule, required, optional, with_default, place_rule, HasLine, count_line, create_line, run_line, enter_line, commands_line, import_line, case_line, cases_line, calendar_line, export_line, explain_line, check_line, backup_line, migrate_line, serve_line, rules_line, holidays_line, bare_line, with_entering, with_telling, with_keeping, docketctl};
 
 use crate::help::{
-    BACKUP_HELP, CALENDAR_HELP, CASE_HELP, CASES_HELP, CHECK_HELP, COUNT_HELP, CREATE_HELP,
-    EXPLAIN_HELP, EXPORT_HELP, HOLIDAYS_HELP, IMPORT_HELP, MIGRATE_HELP, PROGRAM_HELP, RULES_HELP,
-    RUN_HELP, SERVE_HELP,
+    BACKUP_HELP, CALENDAR_HELP, CASE_HELP, CASES_HELP, CHECK_HELP, COMMANDS_HELP, COUNT_HELP,
+    CREATE_HELP, ENTER_HELP, EXPLAIN_HELP, EXPORT_HELP, HOLIDAYS_HELP, IMPORT_HELP, MIGRATE_HELP,
+    PROGRAM_HELP, RULES_HELP, RUN_HELP, SERVE_HELP,
 };
 use clap::{Arg, ArgAction, Command};
 use std::alloc::{AllocError, Global};
@@ -18,14 +18,17 @@ const ZONE: &str = "UTC0";
 /// When its clerk's office closes, where no time is given.
 const CLOSE: &str = "17:00";
 
-const FILE_TEXT: &str = "The docket's file, of SQLite";
+pub(crate) const FILE_TEXT: &str = "The docket's file, of SQLite";
+
+/// How help shows that the options of `enter` follow the kind.
+const ENTER_USAGE: &str = "docketctl enter <KIND> --db <FILE> [OPTIONS]";
 
 const ZONE_TEXT: &str = "The court's zone, as EST5EDT,M3.2.0,M11.1.0";
 
 const CLOSE_TEXT: &str = "When the clerk's office closes";
 
 /// An option `--id VALUE`.
-fn option<'a>(alloc: Global, id: &'a str, value: &'a str, help: &'a str) -> Arg<'a>
+pub(crate) fn option<'a>(alloc: Global, id: &'a str, value: &'a str, help: &'a str) -> Arg<'a>
     ensures rule { rule_of result ≡ option_rule id.now }
     ensures local { result.global ≡ false }
 {
@@ -37,7 +40,12 @@ fn option<'a>(alloc: Global, id: &'a str, value: &'a str, help: &'a str) -> Arg<
 }
 
 /// An option that has to be there.
-fn needed_option<'a>(alloc: Global, id: &'a str, value: &'a str, help: &'a str) -> Arg<'a>
+pub(crate) fn needed_option<'a>(
+    alloc: Global,
+    id: &'a str,
+    value: &'a str,
+    help: &'a str,
+) -> Arg<'a>
     ensures rule { rule_of result ≡ required (option_rule id.now) }
     ensures local { result.global ≡ false }
 {
@@ -45,7 +53,7 @@ fn needed_option<'a>(alloc: Global, id: &'a str, value: &'a str, help: &'a str) 
 }
 
 /// An option `--id` with no value.
-fn flag<'a>(alloc: Global, id: &'a str, help: &'a str) -> Arg<'a>
+pub(crate) fn flag<'a>(alloc: Global, id: &'a str, help: &'a str) -> Arg<'a>
     ensures rule { rule_of result ≡ flag_rule id.now }
     ensures local { result.global ≡ false }
 {
@@ -90,7 +98,12 @@ fn option_or<'a>(
 }
 
 /// A subcommand with no option or place yet.
-fn subcommand<'a>(alloc: Global, name: &'a str, about: &'a str, after_help: &'a str) -> Command<'a>
+pub(crate) fn subcommand<'a>(
+    alloc: Global,
+    name: &'a str,
+    about: &'a str,
+    after_help: &'a str,
+) -> Command<'a>
     ensures { HasLine (new_app name.now) result }
 {
     Command::new(alloc, name)
@@ -135,6 +148,42 @@ fn run_command<'a>(alloc: Global) -> Result<Command<'a>, AllocError>
     .arg(option(alloc, "db", "FILE", FILE_TEXT))?
     .arg(option_or(alloc, "zone", "ZONE", ZONE, ZONE_TEXT))?
     .arg(option_or(alloc, "close", "HH:MM", CLOSE, CLOSE_TEXT))
+}
+
+/// The same line, with another usage in help.
+fn with_usage<'a>(command: Command<'a>, usage: &'a str) -> Command<'a>
+    ensures { (line : App) → HasLine line command.entry → HasLine line result }
+{
+    command.override_usage(usage)
+}
+
+fn enter_command<'a>(alloc: Global) -> Result<Command<'a>, AllocError>
+    ensures { IfOk result (HasLine enter_line) }
+{
+    let command = subcommand(
+        alloc,
+        "enter",
+        "Enter a command of a docket, by the options of its kind",
+        ENTER_HELP,
+    );
+    with_usage(command, ENTER_USAGE).arg(optional_place(
+        alloc,
+        "kind",
+        "KIND",
+        "The kind of the command",
+    ))
+}
+
+fn commands_command<'a>(alloc: Global) -> Result<Command<'a>, AllocError>
+    ensures { IfOk result (HasLine commands_line) }
+{
+    subcommand(
+        alloc,
+        "commands",
+        "Print the kinds of commands, or the fields of one",
+        COMMANDS_HELP,
+    )
+    .arg(optional_place(alloc, "kind", "KIND", "The kind whose fields are printed"))
 }
 
 fn import_command<'a>(alloc: Global) -> Result<Command<'a>, AllocError>
@@ -188,12 +237,15 @@ fn calendar_command<'a>(alloc: Global) -> Result<Command<'a>, AllocError>
     subcommand(
         alloc,
         "calendar",
-        "Print the deadlines that fall due from one day to another",
+        "Print the deadlines that fall due from one day to another, or about today",
         CALENDAR_HELP,
     )
     .arg(needed_option(alloc, "db", "FILE", FILE_TEXT))?
-    .arg(place(alloc, "from", "FROM", "The first day, as 2027-01-01"))?
-    .arg(place(alloc, "to", "TO", "The last day"))
+    .arg(flag(alloc, "today", "In place of FROM and TO, today"))?
+    .arg(flag(alloc, "week", "Today and the six days after it"))?
+    .arg(flag(alloc, "overdue", "Every day before today"))?
+    .arg(optional_place(alloc, "from", "FROM", "The first day, as 2027-01-01"))?
+    .arg(optional_place(alloc, "to", "TO", "The last day"))
 }
 
 fn export_command<'a>(alloc: Global) -> Result<Command<'a>, AllocError>
@@ -376,6 +428,8 @@ fn add_entering<'a>(alloc: Global, program: Command<'a>) -> Result<Command<'a>, 
     let program = add(program, Ok(count_command(alloc)))?;
     let program = add(program, create_command(alloc))?;
     let program = add(program, run_command(alloc))?;
+    let program = add(program, enter_command(alloc))?;
+    let program = add(program, commands_command(alloc))?;
     add(program, import_command(alloc))
 }
 

@@ -4,11 +4,12 @@ ghost use Rattle.std.specs.Prelude.{◌≡◌, ℕ, IfOk, MatchResult, None, Som
 ghost use Rattle.clap.specs.Matches.{found_of};
 ghost use Rattle.clap.specs.Walk.{rows_of};
 ghost use Rattle.civil_time.specs.DayText.{day_of_text};
-ghost use Rattle.docket_jobs.specs.Jobs.{Asked, IsLimited, asked, calendar_asked, days_asked, export_asked, form_of, holidays_asked, sheet_if, to_export, to_tell_court_calendar, to_tell_holidays, year_of};
+ghost use Rattle.docket_jobs.specs.Jobs.{Asked, IsLimited, asked, calendar_asked, days_asked, due_of, export_asked, form_of, holidays_asked, sheet_if, to_export, to_tell_calendar, to_tell_court_calendar, to_tell_holidays, year_of};
 
+use crate::due::Due;
 use crate::job::Job;
 use crate::number::{read_number, read_year};
-use crate::value::{BadValue, value};
+use crate::value::{BadValue, flag, value};
 use civil_time::{Day, read_day};
 use clap::ArgMatches;
 use due_exports::Form;
@@ -26,16 +27,44 @@ fn days<'a>(from: &str, to: &str) -> Result<(Day, Day), BadValue<'a>>
     Ok((from, to))
 }
 
+fn days_job<'a>(file: &'a str, from: &str, to: &str) -> Result<Job<'a>, BadValue<'a>>
+    ensures limited { IfOk result IsLimited }
+    ensures job { MatchResult result (λ job. days_asked (to_tell_calendar file.now) from.now to.now ≡ Some (asked job))
+        (λ _. days_asked (to_tell_calendar file.now) from.now to.now ≡ None) }
+{
+    let (from, to) = days(from, to)?;
+    Ok(Job::Calendar { file, from, to })
+}
+
+/// The days of a flag, if one is given.
+fn read_due<'a>(today: bool, week: bool, overdue: bool) -> Result<Option<Due>, BadValue<'a>>
+    ensures { MatchResult result (λ due. due_of today week overdue ≡ Some due) (λ _. due_of today week overdue ≡ None) }
+{
+    match (today, week, overdue) {
+        (false, false, false) => Ok(None),
+        (true, false, false) => Ok(Some(Due::Today)),
+        (false, true, false) => Ok(Some(Due::Week)),
+        (false, false, true) => Ok(Some(Due::Overdue)),
+        _ => Err(BadValue::Due),
+    }
+}
+
+/// Two days are given, or a flag.
+#[tactic(auto, using(crate::proofs::MatchLemmas::first_value_is))]
 pub(crate) fn calendar_job<'a>(found: &ArgMatches<'a>) -> Result<Job<'a>, BadValue<'a>>
-    ensures { MatchResult result (λ job. calendar_asked (rows_of (found_of found.now)) ≡ Some (asked job))
+    ensures limited { IfOk result IsLimited }
+    ensures job { MatchResult result (λ job. calendar_asked (rows_of (found_of found.now)) ≡ Some (asked job))
         (λ _. calendar_asked (rows_of (found_of found.now)) ≡ None) }
 {
-    let (from, to) = days(value(found, "from"), value(found, "to"))?;
-    Ok(Job::Calendar {
-        file: value(found, "db"),
-        from,
-        to,
-    })
+    let file = value(found, "db");
+    let week = flag(found, "week");
+    let due = read_due(flag(found, "today"), week, flag(found, "overdue"))?;
+    let places = (found.get_str("from"), found.get_str("to"));
+    match (due, places.0, places.1) {
+        (None, Some(from), Some(to)) => days_job(file, from, to),
+        (Some(due), None, None) => Ok(Job::CalendarOf { file, due }),
+        _ => Err(BadValue::Due),
+    }
 }
 
 /// The format that the word names.

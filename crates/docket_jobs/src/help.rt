@@ -33,9 +33,12 @@ With no command, docketctl counts. A docket in a file is made, kept and read lik
   docketctl create --db court.db --zone EST5EDT,M3.2.0,M11.1.0 --close 17:00
   docketctl import --db court.db --key holidays-2027 < holidays.csv
   docketctl run --db court.db < commands.jsonl
+  docketctl enter vacate --db court.db --case 1 --deadline 1
+  docketctl commands
   docketctl case --db court.db 1
   docketctl cases --db court.db
   docketctl calendar --db court.db 2027-01-01 2027-12-31
+  docketctl calendar --db court.db --today
   docketctl export --db court.db 2027-01-01 2027-12-31 --as ics
   docketctl holidays --db court.db 2027-01-01 2027-12-31
   docketctl explain --db court.db 1 1
@@ -77,6 +80,38 @@ terminal, how many lines were answered.
 
 Exit status: 0 all commands were accepted, 1 a line was refused or no command, 2 bad command
 line, 3 reading, writing, memory or the database failed.";
+
+pub(crate) const ENTER_HELP: &str = "\
+A command of a docket is entered without JSON, with an option for each of its fields. The kind comes
+first:
+  docketctl enter serve_summons --db court.db --case 1 --party Doe --basis private --served 2025-06-13
+  {\"number\":1}
+Standard output has the answer of `docketctl run`, and standard error what the command did, the new
+deadline and why it ends when it does. `docketctl commands` lists the kinds, `docketctl commands
+serve_summons` the fields of one with an example, and `docketctl enter serve_summons --help` its options.
+A case is given by its number or its docket number, and a party by its number or its name: the whole
+name, in large or small letters, or a part of it that no other party has.
+Without --key the key is made of the day and the command, so that the same words given twice on a day act
+once. With --show standard output has what the command would do, and nothing is entered.
+
+Exit status: 0 the command was accepted or shown, 1 it was refused or no command, or a name fits none or
+several, 2 bad command line, 3 reading, writing, memory or the database failed.";
+
+pub(crate) const ENTRY_HELP: &str = "\
+CASE is a case's number or its docket number, and PARTY a party's number, its name or a part of it. DAY is
+as 2025-06-13, and MOMENT as 2025-11-01T17:00-05:00. `docketctl enter --help` says what is printed, and
+`docketctl commands` with the kind has an example.
+
+Exit status: 0 the command was accepted or shown, 1 it was refused or no command, or a name fits none or
+several, 2 bad command line, 3 reading, writing, memory or the database failed.";
+
+pub(crate) const COMMANDS_HELP: &str = "\
+Each kind of command has a line, with what it is called. With KIND each of its fields has one: its option
+for `docketctl enter`, what it is called, and the form of its value or the words that it takes. An example
+comes last, and the same command as a line of `docketctl run`:
+  docketctl commands serve_summons
+
+Exit status: 0 they were printed, 2 bad command line, 3 writing or memory failed.";
 
 pub(crate) const IMPORT_HELP: &str = "\
 Standard input is a table of comma-separated values: first the line `kind,day,name`, then at most
@@ -128,6 +163,9 @@ for other filing; one of hours ends at an instant. The last line has their numbe
   2025-07-07 24:00 17:00       1    4 12(a)(1)(A)(i)      1
   end 2
 FROM and TO are days from 1980-01-01 to 3999-12-31, and TO is not before FROM.
+In their place --today, --week or --overdue is given: what falls due today, today and on the six days
+after, or before today and runs still. Today is the day of the clock in the court's zone:
+  docketctl calendar --db court.db --week
 
 Exit status: 0 the calendar was printed, 2 bad command line, 3 writing, memory or the database failed.";
 

@@ -1,20 +1,24 @@
 //! What a command line asks for.
-ghost use Rattle.std.specs.Prelude.{◌≡◌, IfOk, MatchResult, None, Some, map, option_copied, string_bytes};
+ghost use Rattle.std.specs.Prelude.{◌≡◌, IfOk, MatchResult, None, Some, drop, map, option_copied, string_bytes};
+ghost use Rattle.clap.specs.Faults.{fault_of};
 ghost use Rattle.clap.specs.Kinds.{FailsBy};
 ghost use Rattle.clap.specs.Matches.{found_of};
 ghost use Rattle.clap.specs.Simple.{subcommand_rows_of};
-ghost use Rattle.clap.specs.Values.{kind_of};
 ghost use Rattle.clap.specs.Walk.{rows_of};
-ghost use Rattle.docket_jobs.specs.Jobs.{IsLimited, asked, asked_by, asked_in, asked_of, backup_asked, is_origin, limit_of, origin_if, case_asked, cases_asked, check_asked, court_asked, create_asked, explain_asked, explain_numbers, import_asked, line_faults, migrate_asked, number_of, place_if, rules_asked, run_asked, serve_asked, socket_if, where_asked};
+ghost use Rattle.docket_jobs.specs.CommandLine.{docketctl};
+ghost use Rattle.docket_jobs.specs.Jobs.{IsLimited, asked, asked_by, asked_in, asked_of, backup_asked, is_origin, limit_of, origin_if, case_asked, cases_asked, check_asked, court_asked, create_asked, explain_asked, explain_numbers, import_asked, is_entry, line_asked, line_faults, or_bad_value, word_at, migrate_asked, number_of, place_if, rules_asked, run_asked, serve_asked, socket_if, where_asked};
 
 use crate::command_line::command;
 use crate::day_jobs::{calendar_job, export_job, holidays_job};
+use crate::due::Due;
+use crate::entering::{commands_job, read_entry};
 use crate::number::{read_count, read_number, read_port};
-use crate::value::{BadValue, flag, value};
+use crate::value::{BadValue, flag, told, value};
 use civil_time::Day;
-use clap::error::ErrorKind;
-use clap::{ArgMatches, Command, Error};
+use clap::{ArgMatches, Error};
+use command_forms::FieldText;
 use court_days::{Court, CourtFault};
+use docket_command::CommandName;
 use due_exports::Form;
 use patient_stream::Place;
 use std::alloc::{AllocError, Global};
@@ -36,6 +40,20 @@ pub enum Job<'a> {
     /// `run` without a file: answer commands from the input, of a new docket in memory, of the court.
     RunInMemory {
         court: Court,
+    },
+    /// `enter`: enter a command of a kind in the docket in a file, or with `show` tell what it would do. The
+    /// texts are those given for its fields, in the order of the kind's; a flag always has one, `true` or
+    /// `false`. Without a key one is made.
+    Enter {
+        file: &'a str,
+        key: Option<&'a str>,
+        show: bool,
+        kind: CommandName,
+        given: Vec<FieldText<'a>>,
+    },
+    /// `commands`: print the kinds of commands, or the fields of one.
+    Commands {
+        kind: Option<CommandName>,
     },
     /// `import`: enter the days of a table from the input in the calendar of the docket in a file.
     Import {
@@ -60,6 +78,12 @@ pub enum Job<'a> {
         file: &'a str,
         from: Day,
         to: Day,
+    },
+    /// `calendar` with `--today`, `--week` or `--overdue`: print the deadlines that fall due on those days, of
+    /// the docket in a file.
+    CalendarOf {
+        file: &'a str,
+        due: Due,
     },
     /// `export`: print the deadlines that fall due from one day to another, which is not before it, of the
     /// docket in a file, in a format.
@@ -365,6 +389,8 @@ fn job_by<'a>(
     match name {
         "create" => create_job(alloc, found),
         "run" => run_job(alloc, found),
+        "enter" => Ok(Err(BadValue::NoKind)),
+        "commands" => Ok(commands_job(found)),
         "import" => Ok(Ok(import_job(found))),
         "case" => Ok(case_job(found)),
         "cases" => Ok(Ok(cases_job(found))),
@@ -395,16 +421,47 @@ fn job_in<'a>(
     }
 }
 
-/// Returns the error that reports a bad value, with the usage of the command.
-fn told<'a>(
-    alloc: Global,
-    command: &mut Command<'_>,
-    bad: &BadValue<'a>,
-) -> Result<Error, AllocError>
-    ensures { IfOk result (λ e. kind_of e ≡ ErrorKind.ValueValidation) }
+/// What the words ask for, read by the program's line.
+fn read_line<'a>(alloc: Global, words: &'a [String]) -> Result<Job<'a>, Error>
+    ensures limited { IfOk result IsLimited }
+    ensures job { IfOk result (λ job. line_asked (map string_bytes words.now) ≡ Some (asked job)) }
+    ensures fault { FailsBy (or_bad_value (fault_of docketctl (map string_bytes words.now)) (line_asked (map string_bytes words.now))) result }
 {
-    let message = format!(in alloc; "{bad}")?;
-    command.error(ErrorKind::ValueValidation, message.as_str())
+    let mut command = command(alloc)?;
+    let matches = command.try_get_matches_from_mut(words)?;
+    match job_in(alloc, &matches) {
+        Ok(Ok(job)) => Ok(job),
+        Ok(Err(bad)) => Err(told(alloc, &mut command, &bad)?),
+        Err(error) => Err(error.into()),
+    }
+}
+
+/// The word at a place; an empty one where there is none.
+fn word_at<'a>(place: usize, words: &'a [String]) -> &'a str
+    ensures { result.now ≡ word_at place (map string_bytes words.now) }
+{
+    match words.get(place) {
+        Some(word) => word.as_str(),
+        None => "",
+    }
+}
+
+/// Whether a kind of command follows `docketctl enter`, by its place: a word that is no option.
+fn is_entry(words: &[String]) -> bool
+    ensures { result ≡ is_entry (map string_bytes words.now) }
+{
+    let kind = word_at(2, words).as_bytes();
+    word_at(1, words) == "enter" && !kind.is_empty() && kind[0] != b'-'
+}
+
+/// The words without the first two.
+fn behind_two<'a>(words: &'a [String]) -> &'a [String]
+    ensures { result.now ≡ drop 2 words.now }
+{
+    if words.len() < 2 {
+        return &[];
+    }
+    &words[2..]
 }
 
 /// Returns what the words ask for, the first of which is the program's name. The error is what to print: a
@@ -414,11 +471,8 @@ pub fn read_job<'a>(alloc: Global, words: &'a [String]) -> Result<Job<'a>, Error
     ensures fault { FailsBy (line_faults (map string_bytes words.now)) result }
     ensures limited { IfOk result IsLimited }
 {
-    let mut command = command(alloc)?;
-    let matches = command.try_get_matches_from_mut(words)?;
-    match job_in(alloc, &matches) {
-        Ok(Ok(job)) => Ok(job),
-        Ok(Err(bad)) => Err(told(alloc, &mut command, &bad)?),
-        Err(error) => Err(error.into()),
+    if is_entry(words) {
+        return read_entry(alloc, word_at(2, words), behind_two(words));
     }
+    read_line(alloc, words)
 }

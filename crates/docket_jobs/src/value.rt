@@ -1,10 +1,13 @@
 //! The values of a command line.
-ghost use Rattle.std.specs.Prelude.{◌≡◌};
+ghost use Rattle.std.specs.Prelude.{◌≡◌, IfOk};
 ghost use Rattle.clap.specs.Matches.{found_of};
+ghost use Rattle.clap.specs.Values.{kind_of};
 ghost use Rattle.clap.specs.Walk.{rows_of};
 ghost use Rattle.docket_jobs.specs.Jobs.{flag_of, value_of};
 
-use clap::ArgMatches;
+use clap::error::ErrorKind;
+use clap::{ArgMatches, Command, Error};
+use std::alloc::{AllocError, Global};
 use std::fmt;
 
 /// A value of the command line that lies outside its limits.
@@ -12,11 +15,15 @@ use std::fmt;
 pub(crate) enum BadValue<'a> {
     Zone(&'a str),
     Close(&'a str),
+    Kind(&'a str),
+    NoKind,
+    Table,
     Number,
     Numbers,
     Places,
     Day,
     Range,
+    Due,
     Form,
     Sheet,
     Port,
@@ -41,6 +48,18 @@ impl fmt::Display for BadValue<'_> {
             BadValue::Close(close) => {
                 write!(f, "--close {close:?} is no time from 00:00 to 23:59")
             }
+            BadValue::Kind(word) => {
+                write!(
+                    f,
+                    "{word:?} is no kind of command, which docketctl commands lists"
+                )
+            }
+            BadValue::NoKind => f.write_str(
+                "enter takes a kind of command first, which docketctl commands lists, then --db FILE",
+            ),
+            BadValue::Table => f.write_str(
+                "import_calendar takes a table of days, which docketctl import enters",
+            ),
             BadValue::Number => f.write_str(
                 "NUMBER is a number from 1 to 4294967295, without a leading zero",
             ),
@@ -52,6 +71,9 @@ impl fmt::Display for BadValue<'_> {
                 "FROM and TO are days from 1980-01-01 to 3999-12-31, as 2027-04-19",
             ),
             BadValue::Range => f.write_str("FROM is after TO"),
+            BadValue::Due => f.write_str(
+                "FROM and TO are needed, or one of --today, --week and --overdue without them",
+            ),
             BadValue::Form => f.write_str("--as FORM is ics, html, csv or json"),
             BadValue::Sheet => f.write_str(
                 "--case goes with --as html alone, and without it go FROM and TO",
@@ -85,4 +107,16 @@ pub(crate) fn flag(found: &ArgMatches<'_>, id: &str) -> bool
     ensures { result ≡ flag_of id.now (rows_of (found_of found.now)) }
 {
     value(found, id) == "true"
+}
+
+/// Returns the error that reports a bad value, with the usage of the command.
+pub(crate) fn told<'a>(
+    alloc: Global,
+    command: &mut Command<'_>,
+    bad: &BadValue<'a>,
+) -> Result<Error, AllocError>
+    ensures { IfOk result (λ e. kind_of e ≡ ErrorKind.ValueValidation) }
+{
+    let message = format!(in alloc; "{bad}")?;
+    command.error(ErrorKind::ValueValidation, message.as_str())
 }

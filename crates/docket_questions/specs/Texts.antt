@@ -6,13 +6,14 @@ use Rattle.court_days.specs.Calendar.{Entered}
 use Rattle.court_days.specs.Court.{CourtSettings, zone_of}
 use Rattle.court_reasons.specs.Steps.{steps_of}
 use Rattle.docket_calendar.specs.Calendar.{calendar_rows}
-use Rattle.docket_history.specs.Histories.{History, case_rows, deadlines, local_rule_rows}
+use Rattle.docket_history.specs.Histories.{History, case_rows, deadlines, local_rule_rows, parties_of_case, party_rows}
 use Rattle.docket_history.specs.Records.{calendar, case_at, case_record, deadline_lines}
 use Rattle.docket_history.specs.Views.{deadline_at}
 use Rattle.docket_history.specs.declared.record.CaseRecord.{CaseRecord}
 use Rattle.docket_history.specs.declared.record.DeadlineLine.{DeadlineLine}
 use Rattle.docket_history.specs.declared.record.DueRow.{DueRow}
 use Rattle.docket_history.specs.declared.row.CaseRow.{CaseRow}
+use Rattle.docket_history.specs.declared.row.PartyRow.{PartyRow}
 use Rattle.docket_history.specs.declared.view.DeadlineView.{DeadlineView}
 use Rattle.docket_questions.specs.declared.telling.Telling.{Telling}
 use Rattle.docket_questions.specs.declared.telling.Telling.TheVariants.{Page, Sheet, Text}
@@ -21,11 +22,10 @@ use Rattle.docket_questions.specs.Searches.{newest_cases}
 use Rattle.docket_text.specs.CaseTexts.{case_text, deadlines_text}
 use Rattle.docket_text.specs.RuleTexts.{rules_text}
 use Rattle.html_sheets.specs.Pages.{page_foot, page_head}
-use Rattle.html_sheets.specs.Sheets.{case_sheet}
+use Rattle.html_sheets.specs.Sheets.{case_sheet, name_of, party_at}
 use Rattle.html_sheets.specs.Sites.{case_page, cases_page, days_page_foot, days_page_head, reasons_page, text_page}
-use Rattle.html_sheets.specs.Weeks.{due_row}
+use Rattle.html_sheets.specs.Weeks.{named_row}
 use Rattle.html_sheets.specs.declared.due_list.DueList.{DueList}
-use Rattle.html_sheets.specs.declared.links.Links.TheVariants.{Pages}
 use Rattle.html_sheets.specs.declared.links.Links.TheVariants as links
 use Rattle.reason_lines.specs.Lines.{reasons_text}
 
@@ -97,13 +97,14 @@ page_up_to h last = cases_page (take 100 (newest_cases h None last)) (newer (len
 abbrev pub page_of_cases : History → Option ℕ → List ℕ
 page_of_cases h before = page_up_to h (last_before (length (case_rows h)) before)
 
--- the row of a deadline that falls due, with the label and the caption of its case; each such deadline has a case
-abbrev pub row_of : CourtSettings → DueRow → Option CaseRow → List ℕ
-row_of court due None = due_row Pages court due [] []
-row_of court due (Some case) = due_row Pages court due case.label case.caption
+-- the row of a deadline that falls due, with the name of its party, and the label and the caption of its case; each such deadline has a
+-- case
+abbrev pub row_of : CourtSettings → DueRow → List PartyRow → Option CaseRow → List ℕ
+row_of court due parties None = named_row court due [] (name_of (party_at parties due.party)) []
+row_of court due parties (Some case) = named_row court due case.label (name_of (party_at parties due.party)) case.caption
 
 abbrev pub due_told : CourtSettings → History → DueRow → List ℕ
-due_told court h due = row_of court due (case_at (case_rows h) due.case)
+due_told court h due = row_of court due (parties_of_case due.case (party_rows h)) (case_at (case_rows h) due.case)
 
 -- the page of the deadlines whose time runs to one of the days, in the order of the calendar
 abbrev pub page_of_days : DueList → CourtSettings → History → ℕ → ℕ → List ℕ

@@ -13,8 +13,8 @@ fn begins(text: &[u8], words: &[u8]) -> bool
     text[..most].eq_ignore_ascii_case(words)
 }
 
-/// Whether the text contains the words.
-pub(crate) fn has_words(text: &str, words: &str) -> bool
+/// Returns whether the text contains the words, without regard to the case of ASCII letters.
+pub fn has_words(text: &str, words: &str) -> bool
     ensures { result ≡ has_words text.now words.now }
 {
     let text = text.as_bytes();

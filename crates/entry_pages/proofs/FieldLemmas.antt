@@ -22,6 +22,10 @@ pub all_fields : (kind : CommandName) (pairs : List (List ℕ × List ℕ)) (sai
     → flat_map (λ e. field_told kind pairs said (spec_of e)) entered ≡ flat_map (field_told kind pairs said) (fields_of kind)
 all_fields kind pairs said entered is = sym (flat_map-map (field_told kind pairs said) spec_of entered) ∙ ap (flat_map (field_told kind pairs said)) is
 
+-- what a list points to, told item by item
+pub mapped : {A B C : Type 0} (f : B → List C) (g : A → B) (xs : List A) (ys : List B) → map g xs ≡ ys → flat_map (λ x. f (g x)) xs ≡ flat_map f ys
+mapped f g xs ys is = sym (flat_map-map f g xs) ∙ ap (flat_map f) is
+
 -- a choice, by the texts to which it points
 abbrev pub texts_at : Bor (List ℕ) × Bor (List ℕ) → List ℕ × List ℕ
 texts_at choice = (choice.0.now, choice.1.now)

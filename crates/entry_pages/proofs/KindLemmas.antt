@@ -13,21 +13,19 @@ head_parts kind fresh word is_word =
     ap (λ (w : List ℕ). codes "<form class=\"entry\" action=\"/pages/commands\" method=\"post\" autocomplete=\"off\">\n<input type=\"hidden\" name=\"do\" value=\""
     ++ (w ++ (codes "\"><input type=\"hidden\" name=\"key\" value=\"desk-" ++ (decimal fresh ++ codes "\">\n")))) is_word
 
-six_joined : (old a b c d e f : List ℕ) → (((((old ++ a) ++ b) ++ c) ++ d) ++ e) ++ f ≡ old ++ (a ++ (b ++ (c ++ (d ++ (e ++ f)))))
-six_joined old a b c d e f = simp append_assoc refl
-
--- six texts, one added behind the other
-pub six_added : (a b c d e f old one two three four five six : List ℕ) → one ≡ old ++ a → two ≡ one ++ b → three ≡ two ++ c → four ≡ three ++ d → five ≡ four ++ e → six ≡ five ++ f
-    → six ≡ old ++ (a ++ (b ++ (c ++ (d ++ (e ++ f)))))
-six_added a b c d e f old one two three four five six is_one is_two is_three is_four is_five is_six =
-    is_six
-    ∙ ap (λ (u : List ℕ). u ++ f) (is_five
-    ∙ ap (λ (u : List ℕ). u ++ e) (is_four
-    ∙ ap (λ (u : List ℕ). u ++ d) (is_three
-    ∙ ap (λ (u : List ℕ). u ++ c) (is_two
-    ∙ ap (λ (u : List ℕ). u ++ b) is_one))))
-    ∙ six_joined old a b c d e f
-
 -- a text to which another is added
 pub added : {old new text more last : List ℕ} → new ≡ old ++ more → old ≡ text → more ≡ last → new ≡ text ++ last
 added is before behind = is ∙ ap₂ (λ (a b : List ℕ). a ++ b) before behind
+
+-- four texts, one added behind the other
+pub four_added : (a b c d one two three four : List ℕ) → one ≡ a → two ≡ one ++ b → three ≡ two ++ c → four ≡ three ++ d → four ≡ a ++ (b ++ (c ++ d))
+four_added a b c d one two three four is_one is_two is_three is_four = rw (is_four, is_three, is_two, is_one) (simp append_assoc refl)
+
+-- a text behind a head, and others behind it
+pub words_added : (head word told last old one two : List ℕ) → one ≡ old ++ (head ++ word) → two ≡ one ++ told → told ≡ last → two ≡ old ++ (head ++ (word ++ last))
+words_added head word told last old one two is_one is_two is_told = rw (is_two, is_one, is_told) (simp append_assoc refl)
+
+-- a word between two texts, then options, then a line between two texts
+pub example_added : (a word named b options c line d old one two three : List ℕ) → word ≡ named → one ≡ old ++ (a ++ (word ++ b)) → two ≡ one ++ options → three ≡ two ++ (c ++ (line ++ d))
+    → three ≡ old ++ (a ++ (named ++ (b ++ (options ++ (c ++ (line ++ d))))))
+example_added a word named b options c line d old one two three is_word is_one is_two is_three = rw (is_three, is_two, is_one, is_word) (simp append_assoc refl)

@@ -1,2 +1,4 @@
 pub mod FieldLemmas
 pub mod KindLemmas
+pub mod ExampleLemmas
+mod CommandLemmas

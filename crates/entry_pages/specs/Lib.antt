@@ -5,3 +5,8 @@ pub mod Saying
 pub mod Forms
 pub mod Kinds
 pub mod Pages
+pub mod Limits
+pub mod ValueForms
+pub mod Sentences
+pub mod Examples
+pub mod CommandList

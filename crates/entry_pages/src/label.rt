@@ -78,7 +78,7 @@ fn at_label(kind: CommandName) -> &'static str
 }
 
 /// What a field is called in the form of a kind of command.
-pub(crate) fn label_of(kind: CommandName, field: Field) -> &'static str
+pub fn label_of(kind: CommandName, field: Field) -> &'static str
     ensures { result.now ≡ label_of kind field }
 {
     match field {

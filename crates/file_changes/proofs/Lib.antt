@@ -1,4 +1,5 @@
 mod ApplyLemmas
+mod EnterLemmas
 mod MigrateLemmas
 pub mod RunLemmas
 mod StandLemmas

@@ -120,7 +120,7 @@ module _ {S : Type 0} (g : Ghosts S) (stored : Stored S) where
 
 -- The same of whatever else is left by that.
 module _ (L M : Rows → Rows → Type 0) (more : (rows next : Rows) → L rows next → M rows next) where
-  keeps_map : (docket : Docket) → Keeps L docket → Keeps M docket
+  pub keeps_map : (docket : Docket) → Keeps L docket → Keeps M docket
   keeps_map docket keeps = (keeps.0, more (rows_told docket) (rows_told docket) keeps.1)
 
   between_map : (fault : RunFault) (before next : Docket) → LeftBetween L fault before next → LeftBetween M fault before next
@@ -209,23 +209,23 @@ module _ {S : Type 0} (g : Ghosts S) (conn : Held S) where
     prefix_done (Ok r) answers = prefix_of r answers
     prefix_done (Err fault) answers = absurd answers
 
-    -- where the docket was not adopted nothing went out, and it stays
-    pub prefix_unadopted : HoldsBetween g conn (rows_told docket) (rows_told docket) → after ≡ before
-        → LeavesPrefix (HoldsBetween g conn) docket input before after
-    prefix_unadopted holds same = record {
-      answered = [];
-      more = [];
-      rest = lines_of input;
-      whole = refl;
-      one_more = omega arith;
-      out = [];
-      appends = subst (λ now. Appends before now []) (sym same) (Appends-nil before);
-      begun = [];
-      acknowledged = refl;
-      lost = [];
-      no_further = refl;
-      left = holds;
-    }
+-- where no line was answered nothing went out, and the docket is as it was
+module _ (Left : Rows → Rows → Type 0) (docket : Docket) (input : List ℕ) (before after : Option (List ℕ)) where
+  pub prefix_none : Left (rows_told docket) (rows_told docket) → after ≡ before → LeavesPrefix Left docket input before after
+  prefix_none left same = record {
+    answered = [];
+    more = [];
+    rest = lines_of input;
+    whole = refl;
+    one_more = omega arith;
+    out = [];
+    appends = subst (λ now. Appends before now []) (sym same) (Appends-nil before);
+    begun = [];
+    acknowledged = refl;
+    lost = [];
+    no_further = refl;
+    left = left;
+  }
 
 works_of : {T : Type 0} (P : T → Type 0) (outcome : Result T AdoptFault) → IsOkAnd outcome P → WorksTo P outcome
 works_of P (Ok done) is = is
@@ -250,7 +250,7 @@ module _ {S : Type 0} (g : Ghosts S) (old new : Held S) (known before after : Op
   unran fault adopts same unadopted = record {
     adopts = adopts;
     runs = λ told is stands clean. some_all known _ (λ input. unadopted_works g new (rows_told told) (Answers (HoldsBetween g new) told input before after) fault (unadopted told is stands) clean);
-    prefix = λ told is stands clean. some_all known _ (λ input. prefix_unadopted g new told input before after (unadopted_keeps g new (rows_told told) fault (unadopted told is stands)) same);
+    prefix = λ told is stands clean. some_all known _ (λ input. prefix_none (HoldsBetween g new) told input before after (unadopted_keeps g new (rows_told told) fault (unadopted told is stands)) same);
   }
 
 module _ {D : Type 0} {g : Disk D} (start : Image) (known before after : Option (List ℕ)) (failure : Option Error) (outcome : Result (Result CountEnd RunFault) AdoptFault) (rest : Leftover D g)

@@ -20,10 +20,12 @@ ghost use Rattle.file_dockets.specs.Adopting.{IsJudged};
 ghost use Rattle.file_dockets.specs.Keeping.{rows_told};
 ghost use Rattle.file_dockets.specs.Works.{WorksTo};
 ghost use Rattle.file_changes.specs.Commands.{AppliesTo, IsWrittenOn};
+ghost use Rattle.file_changes.specs.Entering.{Enters};
 ghost use Rattle.file_changes.specs.Migrates.{IsMigrated, MigratesTo};
 ghost use Rattle.file_changes.specs.Runs.{LeavesPrefix, RunsTo};
 
 use crate::creating::Create;
+use crate::entering::{Enter, Entered};
 use crate::importing::Apply;
 use crate::migrating::Migrate;
 use crate::running::Run;
@@ -31,6 +33,7 @@ use command_lines::{CountEnd, RunFault};
 use court_days::Court;
 use docket_command::{Command, Reply};
 use docket_store::{CreateFault, Fault, MigrateFault, Watch};
+use entry_lines::Entry;
 use file_dockets::{OnFile, work_on_file};
 use sqlite::Start;
 use std::io::{Read, Write};
@@ -87,6 +90,32 @@ pub fn apply_on_file<S: Start, V: Watch + Drop>(
 {
     let apply = Apply { watch, command };
     work_on_file(rt, path, start, apply, &mut (), &mut ())
+}
+
+/// Prepares an entry by the docket in the files at a path, and answers its line as a run does. An entry with
+/// a name that fits none or several has no line: nothing is written then, and the docket is left as it was.
+pub fn enter_on_file<S: Start, V: Watch + Drop, W: Write>(
+    rt: &HostRuntime,
+    path: &str,
+    start: S,
+    watch: V,
+    entry: &Entry<'_>,
+    writer: &mut W,
+) -> OnFile<S, Result<Entered, Fault>>
+    ensures enters { (told : Told) → IsDocket told.court told.history → HoldDocket (image_at S.Start) told.court told.history
+        → IfOk result (λ done. IsCleanLeft done.left
+        → WorksTo (Enters (LeavesRows done.left) told entry.now (W.contents writer.old) (W.contents writer.new)) done.outcome) }
+    ensures stays { (told : Told) → IsDocket told.court told.history → HoldDocket (image_at S.Start) told.court told.history
+        → IfOk result (λ done. IsCleanLeft done.left → IfErr done.outcome (λ _. LeavesRows done.left (rows_told told) (rows_told told))) }
+    // For any files, their tables are sound, or the fault says why there is no docket, and they stay.
+    ensures judged { IfOk result (λ done. IsCleanLeft done.left → IsJudged (image_at S.Start) done.left done.failure done.outcome) }
+    ensures unopened { (v : Version) (rows : Rows) → HoldRows v (image_at S.Start) rows
+        → IfErr result (IsUnharmed (image_at S.Start) (IsImageIn v rows)) }
+    // Where there is no docket nothing is written.
+    ensures unwritten { MatchResult result (λ done. IfErr done.outcome (λ _. writer.new ≡ writer.old)) (λ _. writer.new ≡ writer.old) }
+{
+    let enter = Enter { watch, entry };
+    work_on_file(rt, path, start, enter, &mut (), writer)
 }
 
 /// Makes the docket of a court, without any record, in the files at a path, which hold nothing. A docket

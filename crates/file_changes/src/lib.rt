@@ -4,9 +4,11 @@
 #![tactic(auto)]
 
 mod creating;
+mod entering;
 mod file;
 mod importing;
 mod migrating;
 mod running;
 
-pub use file::{apply_on_file, create_on_file, migrate_on_file, run_on_file};
+pub use entering::Entered;
+pub use file::{apply_on_file, create_on_file, enter_on_file, migrate_on_file, run_on_file};

@@ -1,5 +1,5 @@
 //! The lines of an input, answered by the docket of a database.
-ghost use Rattle.std.specs.Prelude.{IfErr, IfSome, IsOkAnd};
+ghost use Rattle.std.specs.Prelude.{IfSome};
 ghost use Rattle.sqlite.specs.Held.{state};
 ghost use Rattle.sqlite.specs.State.{HasCleanDisk};
 ghost use Rattle.file_dockets.specs.Keeping.{HoldsBetween};
@@ -13,26 +13,21 @@ use sqlite::{Alter, Connection};
 use std::alloc::Global;
 use std::io::{Read, Write};
 
-/// Answers the lines of the reader by a docket, and returns its connection.
-fn answer_lines<S: Alter, R: Read, W: Write>(
+/// Answers the lines of the reader by a docket. Returns how that ended, and the docket's connection.
+pub(crate) fn answer_lines<S: Alter, R: Read, W: Write>(
     alloc: Global,
     docket: Docket<S>,
     reader: &mut R,
     writer: &mut W,
-) -> Worked<S, Result<CountEnd, RunFault>, AdoptFault>
-    ensures answers { (told : Told) → StandsAs S.Store docket told → HasCleanDisk (state S.Store result.connection)
-        → IfSome (R.remaining reader.old) (λ input. IsOkAnd result.outcome
-        (Answers (HoldsBetween S.Store result.connection) told input (W.contents writer.old) (W.contents writer.new))) }
-    ensures trust { HasCleanDisk (state S.Store result.connection) → HasCleanDisk (state S.Store docket.conn) }
-    ensures adopted { IfErr result.outcome (λ _. ⊥) }
+) -> (Result<CountEnd, RunFault>, Connection<S>)
+    ensures answers { (told : Told) → StandsAs S.Store docket told → HasCleanDisk (state S.Store result.1)
+        → IfSome (R.remaining reader.old) (λ input.
+        Answers (HoldsBetween S.Store result.1) told input (W.contents writer.old) (W.contents writer.new) result.0) }
+    ensures trust { HasCleanDisk (state S.Store result.1) → HasCleanDisk (state S.Store docket.conn) }
 {
     let mut clerk = Clerk::new(alloc, docket);
-    let outcome = command_run(alloc, reader, writer, &mut clerk);
-    Worked {
-        outcome: Ok(outcome),
-        failure: None,
-        connection: clerk.into_docket().close(),
-    }
+    let end = command_run(alloc, reader, writer, &mut clerk);
+    (end, clerk.into_docket().close())
 }
 
 /// Adopts the docket that a database holds, and answers the lines of the reader. Writes each answer before it
@@ -60,7 +55,14 @@ impl<V: Watch + Drop, R: Read, W: Write> Work<R, W> for Run<V> {
         writer: &mut W,
     ) -> Worked<S, Result<CountEnd, RunFault>, AdoptFault> {
         match adopt(alloc, conn, self.watch) {
-            Ok((docket, _)) => answer_lines(alloc, docket, reader, writer),
+            Ok((docket, _)) => {
+                let (end, connection) = answer_lines(alloc, docket, reader, writer);
+                Worked {
+                    outcome: Ok(end),
+                    failure: None,
+                    connection,
+                }
+            }
             Err(
                 Returned {
                     fault,

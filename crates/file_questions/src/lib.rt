@@ -5,6 +5,8 @@
 
 mod calendar;
 mod checking;
+mod due;
+mod entering;
 mod exporting;
 mod inquiry;
 mod listing;
@@ -12,6 +14,7 @@ mod texts;
 
 pub use calendar::CalendarLines;
 pub use checking::{Judgment, Sound};
+pub use due::DueLines;
 pub use exporting::Export;
 pub use inquiry::{Inquiry, ask_on_file};
 pub use listing::Wanted;

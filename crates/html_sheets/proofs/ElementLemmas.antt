@@ -63,12 +63,29 @@ end_parts day time closing =
     let parted : front (number_cell closing) ≡ end_cells day time closing = end_front (weekday_told day) time (number_cell closing) in
     ap front (sym (element-alone (codes "td") (codes " class=\"number\"") closing)) ∙ parted
 
--- a format takes its first twelve pieces as one
-pub due_parts : (end case label number rule party caption : List ℕ)
-    → (codes "<tr>" ++ (end ++ (codes "<td class=\"number\">" ++ (case ++ (codes "</td><td class=\"number\">" ++ (label ++ (codes "</td><td class=\"number\">" ++ (number ++ (codes "</td><td>" ++ (rule ++ (codes "</td><td class=\"number\">" ++ party)))))))))))
-    ++ (codes "</td><td>" ++ (caption ++ codes "</td></tr>\n"))
-    ≡ row (end ++ (number_cell case ++ (number_cell label ++ (number_cell number ++ (cell rule ++ (number_cell party ++ cell caption))))))
-due_parts end case label number rule party caption = simp (append_assoc, element-then) refl
+cells_front : (end case label number last : List ℕ)
+    → end ++ (codes "<td class=\"number\">" ++ (case ++ (codes "</td><td class=\"number\">" ++ (label ++ (codes "</td><td class=\"number\">" ++ (number ++ (codes "</td>" ++ last)))))))
+    ≡ end ++ (number_cell case ++ (number_cell label ++ (number_cell number ++ last)))
+cells_front end case label number last = simp element-then refl
+
+-- the cells of what is due
+pub cells_parts : (end case label number rule : List ℕ)
+    → end ++ (codes "<td class=\"number\">" ++ (case ++ (codes "</td><td class=\"number\">" ++ (label ++ (codes "</td><td class=\"number\">" ++ (number ++ (codes "</td><td>" ++ (rule ++ codes "</td>"))))))))
+    ≡ end ++ (number_cell case ++ (number_cell label ++ (number_cell number ++ cell rule)))
+cells_parts end case label number rule =
+    let front = λ (last : List ℕ). end ++ (codes "<td class=\"number\">" ++ (case ++ (codes "</td><td class=\"number\">" ++ (label ++ (codes "</td><td class=\"number\">" ++ (number ++ (codes "</td>" ++ last))))))) in
+    ap front (sym (element-alone (codes "td") [] rule)) ∙ cells_front end case label number (cell rule)
+
+-- and its row, with the number of a party, and with its name too
+pub due_parts : (cells party caption : List ℕ)
+    → codes "<tr>" ++ (cells ++ (codes "<td class=\"number\">" ++ (party ++ (codes "</td><td>" ++ (caption ++ codes "</td></tr>\n")))))
+    ≡ row (cells ++ (number_cell party ++ cell caption))
+due_parts cells party caption = simp (append_assoc, element-then) refl
+
+pub named_parts : (cells party name caption : List ℕ)
+    → codes "<tr>" ++ (cells ++ (codes "<td>" ++ (party ++ (codes " " ++ (name ++ (codes "</td><td>" ++ (caption ++ codes "</td></tr>\n")))))))
+    ≡ row (cells ++ (cell (party ++ (codes " " ++ name)) ++ cell caption))
+named_parts cells party name caption = simp (append_assoc, element-then) refl
 
 pub page_parts : (title style heading : List ℕ)
     → codes "<!DOCTYPE html>\n<html lang=\"en\">\n<head>\n<meta charset=\"utf-8\">\n<meta name=\"viewport\" content=\"width=device-width, initial-scale=1\">\n<title>"
@@ -87,10 +104,15 @@ pub days_parts : (from to head : List ℕ)
     ≡ element (codes "p") [] (from ++ (codes " to " ++ to)) ++ (codes "\n" ++ head)
 days_parts from to head = simp (append_assoc, element-then) refl
 
-pub week_parts : (from to zone before after head : List ℕ)
-    → codes "<p>" ++ (from ++ (codes " to " ++ (to ++ (codes "</p>\n" ++ (zone ++ (codes "\n<nav aria-label=\"Other weeks\">" ++ (before ++ (codes " " ++ (after ++ (codes "</nav>\n" ++ head))))))))))
-    ≡ element (codes "p") [] (from ++ (codes " to " ++ to)) ++ (codes "\n" ++ (zone ++ (codes "\n" ++ (nav (codes "Other weeks") (before ++ (codes " " ++ after)) ++ (codes "\n" ++ head)))))
-week_parts from to zone before after head = simp (append_assoc, element-then) refl
+pub week_parts : (from to zone weeks head : List ℕ)
+    → codes "<p>" ++ (from ++ (codes " to " ++ (to ++ (codes "</p>\n" ++ (zone ++ (codes "\n" ++ (weeks ++ head)))))))
+    ≡ element (codes "p") [] (from ++ (codes " to " ++ to)) ++ (codes "\n" ++ (zone ++ (codes "\n" ++ (weeks ++ head))))
+week_parts from to zone weeks head = simp (append_assoc, element-then) refl
+
+pub weeks_parts : (before after : List ℕ)
+    → codes "<nav aria-label=\"Other weeks\">" ++ (before ++ (codes " " ++ (after ++ codes "</nav>\n")))
+    ≡ nav (codes "Other weeks") (before ++ (codes " " ++ after)) ++ codes "\n"
+weeks_parts before after = simp (append_assoc, element-then) refl
 
 -- the links of a list of cases: one of them, and both
 pub one_more_part : (link : List ℕ)

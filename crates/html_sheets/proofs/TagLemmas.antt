@@ -1,5 +1,5 @@
 -- Pieces whose marks are the same, whatever texts they hold.
-use Rattle.std.proofs.Common.{◌≡◌, ℕ, List, [], ◌∷◌, ◌++◌, length, true≢false, refl, sym, ◌∙◌, arith}
+use Rattle.std.proofs.Common.{◌≡◌, ℕ, List, [], ◌∷◌, ◌++◌, length, true, false, true≢false, refl, sym, ◌∙◌, arith}
 use Rattle.std.specs.Prelude.{Bool, codes, decimal, Option, Some, None as none, is_some}
 use Rattle.std.specs.List.{flat_map}
 use Rattle.std.proofs.lemmas.List.Elements.{filter-append}
@@ -27,12 +27,12 @@ use Rattle.html_sheets.specs.Escapes.{escaped}
 use Rattle.html_sheets.specs.Marks.{is_mark, marks}
 use Rattle.html_sheets.specs.Pages.{page_head, page_foot, cases_head, case_row, cases_foot}
 use Rattle.html_sheets.specs.RuleWords.{rule_words, worded, rule_told}
-use Rattle.html_sheets.specs.Sheets.{said, case_head, entering, parties_head, party_row, party_told, name_of, party_at, parties_table, entries_head, entry_row, entries_table, deadlines_head, deadline_row, deadlines_table, case_sheet}
+use Rattle.html_sheets.specs.Sheets.{said, case_head, entering, parties_head, party_row, party_named, party_told, name_of, party_at, parties_table, entries_head, entry_row, entries_table, deadlines_head, deadline_row, deadlines_table, case_sheet}
 use Rattle.html_sheets.specs.Sites.{site_nav, cases_link, more_nav, more_cases, cases_page, words_told, found_told, more_told, search_page, case_page, days_page_head, text_told, text_page, reasons_title, case_back, filed_told, reasons_page, calendar_told, calendar_row, calendar_head, court_days_page}
 use Rattle.html_sheets.specs.Styles.{style_text}
 use Rattle.html_sheets.specs.Titles.{title_of}
 use Rattle.html_sheets.specs.declared.due_list.DueList.{DueList}
-use Rattle.html_sheets.specs.Weeks.{list_title, week_before, week_after, days_link, due_columns, days_told, days_head, zone_told, week_head, end_cells, end_of_row, due_row}
+use Rattle.html_sheets.specs.Weeks.{list_title, week_before, week_after, days_link, due_columns, days_told, days_head, zone_told, has_weeks, weeks_nav, week_head, end_cells, end_of_row, due_cells, due_row, named_row}
 use Rattle.html_sheets.specs.declared.about.About.{About}
 use Rattle.html_sheets.specs.declared.about.About.TheVariants.{Nothing, Case, Party, Deadline}
 use Rattle.html_sheets.specs.declared.filed.Filed.{Filed}
@@ -189,9 +189,11 @@ entry_rows a b = rows _ _ (
     both _ _ _ _ (head_cells _ _ (bare (decimal_bare a.number) (decimal_bare b.number)))
     (both _ _ _ _ (cells _ _ (days a.day b.day)) (cells _ _ (tolds a.text b.text))))
 
+parties_named : (a b : ℕ) (name other : List ℕ) → Same (party_named a name) (party_named b other)
+parties_named a b name other = both (party_text a) (party_text b) _ _ (bare (party_bare a) (party_bare b)) (behind (codes " ") _ _ (tolds name other))
+
 parties_told : (xs ys : List PartyRow) (a b : ℕ) → Same (party_told xs a) (party_told ys b)
-parties_told xs ys a b =
-    both (party_text a) (party_text b) _ _ (bare (party_bare a) (party_bare b)) (behind (codes " ") _ _ (tolds (name_of (party_at xs a)) (name_of (party_at ys b))))
+parties_told xs ys a b = parties_named a b (name_of (party_at xs a)) (name_of (party_at ys b))
 
 pub deadline_rows : (lead : Links) (court place : CourtSettings) (case other : CaseRecord) (a b : DeadlineLine)
     → Same (deadline_row lead court case a) (deadline_row lead place other b)
@@ -260,15 +262,22 @@ days_heads a b c d = before _ _ (codes "\n" ++ due_columns) (days_said a b c d)
 zones_told : (court place : CourtSettings) → Same (zone_told court) (zone_told place)
 zones_told court place = within (codes "p") [] [] _ _ same (behind (codes "Times are local, in the zone ") _ _ (tolds court.zone_text place.zone_text))
 
-pub week_heads : (court place : CourtSettings) (a b c d : ℕ) → Same (week_head court a b) (week_head place c d)
-week_heads court place a b c d =
+-- as many links to other weeks on both sides
+weeks_same : (shown other : Bool) (a b c d : ℕ) → shown ≡ other → Same (weeks_nav shown a b) (weeks_nav other c d)
+weeks_same false false a b c d e = same
+weeks_same true true a b c d e =
+    before _ _ (codes "\n") (navs (codes "Other weeks") _ _ (
+    both _ _ _ _ (days_links (week_before a) (week_before b) (week_before c) (week_before d) (codes "Week before"))
+    (behind (codes " ") _ _ (days_links (week_after a) (week_after b) (week_after c) (week_after d) (codes "Week after")))))
+weeks_same false true a b c d e = absurd (true≢false (sym e))
+weeks_same true false a b c d e = absurd (true≢false e)
+
+pub week_heads : (list other : DueList) (court place : CourtSettings) (a b c d : ℕ) → has_weeks list ≡ has_weeks other → Same (week_head list court a b) (week_head other place c d)
+week_heads list other court place a b c d e =
     both _ _ _ _ (days_said a b c d)
     (behind (codes "\n") _ _
     (both _ _ _ _ (zones_told court place)
-    (behind (codes "\n") _ _
-    (before _ _ (codes "\n" ++ due_columns) (navs (codes "Other weeks") _ _ (
-    both _ _ _ _ (days_links (week_before a) (week_before b) (week_before c) (week_before d) (codes "Week before"))
-    (behind (codes " ") _ _ (days_links (week_after a) (week_after b) (week_after c) (week_after d) (codes "Week after")))))))))
+    (behind (codes "\n") _ _ (before _ _ due_columns (weeks_same (has_weeks list) (has_weeks other) a b c d e)))))
 
 -- two ends
 ends : (day other : ℕ) (time hour closing close : List ℕ) → Same time hour → Same closing close → Same (end_cells day time closing) (end_cells other hour close)
@@ -289,15 +298,24 @@ ends_same court place close late (LastDay day) (Moment at) = ends _ _ _ _ _ _ (b
 ends_same court place close late (Moment at) (LastDay day) = ends _ _ _ _ _ _ (bare (local_bare _ _) midnight) (bare no_closing (close_bare late))
 ends_same court place close late (Moment at) (Moment other) = ends _ _ _ _ _ _ (bare (local_bare _ _) (local_bare _ _)) (bare no_closing no_closing)
 
-pub due_rows : (lead : Links) (court place : CourtSettings) (a b : DueRow) (label word caption name : List ℕ)
-    → Same (due_row lead court a label caption) (due_row lead place b word name)
-due_rows lead court place a b label word caption name = rows _ _ (
+dues : (lead : Links) (court place : CourtSettings) (a b : DueRow) (label word : List ℕ) → Same (due_cells lead court a label) (due_cells lead place b word)
+dues lead court place a b label word =
     both _ _ _ _ (ends_same court place a.close b.close a.end b.end)
     (both _ _ _ _ (number_cells _ _ (case_numbers lead a.case b.case))
     (both _ _ _ _ (number_cells _ _ (tolds label word))
-    (both _ _ _ _ (number_cells _ _ (deadline_numbers lead a.case b.case a.number b.number))
-    (both _ _ _ _ (cells _ _ (rules_told a.rule b.rule))
-    (both _ _ _ _ (number_cells _ _ (bare (party_bare a.party) (party_bare b.party))) (cells _ _ (tolds caption name))))))))
+    (both _ _ _ _ (number_cells _ _ (deadline_numbers lead a.case b.case a.number b.number)) (cells _ _ (rules_told a.rule b.rule)))))
+
+pub due_rows : (lead : Links) (court place : CourtSettings) (a b : DueRow) (label word caption name : List ℕ)
+    → Same (due_row lead court a label caption) (due_row lead place b word name)
+due_rows lead court place a b label word caption name = rows _ _ (
+    both _ _ _ _ (dues lead court place a b label word)
+    (both _ _ _ _ (number_cells _ _ (bare (party_bare a.party) (party_bare b.party))) (cells _ _ (tolds caption name))))
+
+pub named_rows : (court place : CourtSettings) (a b : DueRow) (label word party who caption name : List ℕ)
+    → Same (named_row court a label party caption) (named_row place b word who name)
+named_rows court place a b label word party who caption name = rows _ _ (
+    both _ _ _ _ (dues Pages court place a b label word)
+    (both _ _ _ _ (cells _ _ (parties_named a.party b.party party who)) (cells _ _ (tolds caption name))))
 
 cases_links : (a b : ℕ) (words : List ℕ) → Same (cases_link a words) (cases_link b words)
 cases_links a b words = links _ _ words words (behind (codes "/pages/cases?before=") _ _ (bare (decimal_bare a) (decimal_bare b))) same
@@ -354,8 +372,9 @@ case_pages court place case other deadlines lines parties entries count =
     both _ _ _ _ (page_heads case.label other.label)
     (behind site_nav _ _ (before _ _ page_foot (case_sheets Pages court place case other deadlines lines parties entries count)))
 
-pub days_pages : (list other : DueList) (court place : CourtSettings) (a b c d : ℕ) → Same (days_page_head list court a b) (days_page_head other place c d)
-days_pages list other court place a b c d = both _ _ _ _ (page_heads (list_title list) (list_title other)) (behind site_nav _ _ (week_heads court place a b c d))
+pub days_pages : (list other : DueList) (court place : CourtSettings) (a b c d : ℕ) → has_weeks list ≡ has_weeks other
+    → Same (days_page_head list court a b) (days_page_head other place c d)
+days_pages list other court place a b c d e = both _ _ _ _ (page_heads (list_title list) (list_title other)) (behind site_nav _ _ (week_heads list other court place a b c d e))
 
 lines : (a b : List ℕ) → Same (text_told a) (text_told b)
 lines a b = before _ _ (codes "\n") (within (codes "pre") [] [] _ _ same (record { is = lined-marks a ∙ sym (lined-marks b) }))

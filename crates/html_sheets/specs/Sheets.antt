@@ -65,9 +65,13 @@ abbrev pub name_of : Option PartyRow → List ℕ
 name_of None = []
 name_of (Some party) = party.name
 
+-- a party by its number and a name
+abbrev pub party_named : ℕ → List ℕ → List ℕ
+party_named party name = party_text party ++ (codes " " ++ told name)
+
 -- the party whose time it is: its number, and its name
 abbrev pub party_told : List PartyRow → ℕ → List ℕ
-party_told parties party = party_text party ++ (codes " " ++ told (name_of (party_at parties party)))
+party_told parties party = party_named party (name_of (party_at parties party))
 
 -- the deadlines: the number of each, which leads to its page where there are pages, the party whose time it is, its rule in words and by
 -- its name, and where it stands

@@ -114,7 +114,7 @@ case_page court case deadlines = page_head case.label ++ (site_nav ++ (case_shee
 
 -- the page of what is due from a day to another, up to its rows, and behind them
 abbrev pub days_page_head : DueList → CourtSettings → ℕ → ℕ → List ℕ
-days_page_head list court from to = page_head (list_title list) ++ (site_nav ++ week_head court from to)
+days_page_head list court from to = page_head (list_title list) ++ (site_nav ++ week_head list court from to)
 
 abbrev pub days_page_foot : List ℕ
 days_page_foot = week_foot ++ page_foot
@@ -129,9 +129,9 @@ text_page title text = page_head title ++ (site_nav ++ (text_told text ++ page_f
 -- whether what a deadline asks for was done in time
 abbrev pub filed_told : Filed → List ℕ
 filed_told Unfiled = []
-filed_told InTime = element (codes "p") [] (codes "It was done in time.") ++ codes "\n"
-filed_told Late = element (codes "p") (codes " class=\"late\"") (codes "It was done late.") ++ codes "\n"
-filed_told Untimed = element (codes "p") [] (codes "It was done; no time was running.") ++ codes "\n"
+filed_told InTime = element (codes "p") [] (codes "By the present calendar it was done in time.") ++ codes "\n"
+filed_told Late = element (codes "p") (codes " class=\"late\"") (codes "By the present calendar it was done late.") ++ codes "\n"
+filed_told Untimed = element (codes "p") [] (codes "By the present calendar no time was running when it was done.") ++ codes "\n"
 
 -- the page of why a deadline stands as it does: the text that says it, whether what it asks for was done in time, and links to its case
 -- and to the forms in which is entered what acts on it

@@ -1,5 +1,5 @@
 -- What is due in a week, or on other days.
-use Rattle.std.specs.Prelude.{ℕ, ◌+◌, ◌-◌, max, min, List, [], ◌∷◌, ◌++◌, codes}
+use Rattle.std.specs.Prelude.{ℕ, ◌+◌, ◌-◌, Bool, true, false, max, min, List, [], ◌∷◌, ◌++◌, codes}
 use Rattle.civil_time.specs.DayText.{day_text}
 use Rattle.civil_time.specs.LocalTime.{local_day, local_minute}
 use Rattle.civil_time.specs.MomentText.{clock_text}
@@ -11,9 +11,11 @@ use Rattle.docket_text.specs.Parties.{party_text}
 use Rattle.docket_text.specs.Times.{shown, shown_minute}
 use Rattle.html_sheets.specs.Elements.{element, told, weekday_told, link, nav, case_number, deadline_number, cell, number_cell, head_cell, row, table_head, table_foot}
 use Rattle.html_sheets.specs.RuleWords.{rule_told}
+use Rattle.html_sheets.specs.Sheets.{party_named}
 use Rattle.html_sheets.specs.declared.due_list.DueList.{DueList}
 use Rattle.html_sheets.specs.declared.due_list.DueList.TheVariants as list
 use Rattle.html_sheets.specs.declared.links.Links.{Links}
+use Rattle.html_sheets.specs.declared.links.Links.TheVariants.{Pages}
 
 -- the title of a list of what is due
 abbrev pub list_title : DueList → List ℕ
@@ -50,17 +52,30 @@ days_head from to = days_told from to ++ (codes "\n" ++ due_columns)
 abbrev pub zone_told : CourtSettings → List ℕ
 zone_told court = element (codes "p") [] (codes "Times are local, in the zone " ++ told court.zone_text)
 
--- the same, with that zone and links to the days a week before and a week after between them
-abbrev pub week_head : CourtSettings → ℕ → ℕ → List ℕ
-week_head court from to =
+-- whether a list leads to the days a week before and a week after: one of days that a reader chose does, and one by the day of today does not
+abbrev pub has_weeks : DueList → Bool
+has_weeks list.Days = true
+has_weeks list.Today = false
+has_weeks list.Week = false
+has_weeks list.Overdue = false
+
+abbrev pub weeks_nav : Bool → ℕ → ℕ → List ℕ
+weeks_nav false from to = []
+weeks_nav true from to =
+    nav (codes "Other weeks") (
+    days_link (week_before from) (week_before to) (codes "Week before")
+    ++ (codes " " ++ days_link (week_after from) (week_after to) (codes "Week after")))
+    ++ codes "\n"
+
+-- the same, with that zone and those links between them
+abbrev pub week_head : DueList → CourtSettings → ℕ → ℕ → List ℕ
+week_head list court from to =
     days_told from to
     ++ (codes "\n"
     ++ (zone_told court
     ++ (codes "\n"
-    ++ (nav (codes "Other weeks") (
-    days_link (week_before from) (week_before to) (codes "Week before")
-    ++ (codes " " ++ days_link (week_after from) (week_after to) (codes "Week after")))
-    ++ (codes "\n" ++ due_columns)))))
+    ++ (weeks_nav (has_weeks list) from to
+    ++ due_columns))))
 
 -- the day, the time and the closing of the clerk's office. A last day runs to its midnight for electronic filing, and to the
 -- closing on that day for other filing (Fed. R. Civ. P. 6(a)(4)). The day and the time of an instant are local, and no closing matters
@@ -72,17 +87,25 @@ end_of_row court close (LastDay day) = end_cells day (codes "24:00") (clock_text
 end_of_row court close (Moment at) =
     end_cells (local_day (zone_of court) (shown at)) (clock_text (local_minute (zone_of court) (shown at))) (codes "--:--")
 
--- a deadline whose time runs: its end, its case by its number and its docket number, its number within the case, its rule, the party
--- whose time it is, and the caption of the case. Its case and its number lead to their pages where there are pages
-abbrev pub due_row : Links → CourtSettings → DueRow → List ℕ → List ℕ → List ℕ
-due_row links court due label caption =
-    row (end_of_row court due.close due.end
+-- a deadline whose time runs: its end, its case by its number and its docket number, its number within the case, and its rule. Its case
+-- and its number lead to their pages where there are pages
+abbrev pub due_cells : Links → CourtSettings → DueRow → List ℕ → List ℕ
+due_cells links court due label =
+    end_of_row court due.close due.end
     ++ (number_cell (case_number links due.case)
     ++ (number_cell (told label)
     ++ (number_cell (deadline_number links due.case due.number)
-    ++ (cell (rule_told due.rule)
-    ++ (number_cell (party_text due.party)
-    ++ cell (told caption)))))))
+    ++ cell (rule_told due.rule))))
+
+-- its row, with the number of the party whose time it is, and the caption of the case
+abbrev pub due_row : Links → CourtSettings → DueRow → List ℕ → List ℕ → List ℕ
+due_row links court due label caption =
+    row (due_cells links court due label ++ (number_cell (party_text due.party) ++ cell (told caption)))
+
+-- its row on a page of the docket, which has the name of that party too
+abbrev pub named_row : CourtSettings → DueRow → List ℕ → List ℕ → List ℕ → List ℕ
+named_row court due label name caption =
+    row (due_cells Pages court due label ++ (cell (party_named due.party name) ++ cell (told caption)))
 
 abbrev pub week_foot : List ℕ
 week_foot = table_foot

@@ -1,6 +1,6 @@
 //! Lists of what is due.
 ghost use Rattle.std.specs.Prelude.{◌≡◌};
-ghost use Rattle.html_sheets.specs.Weeks.{list_title};
+ghost use Rattle.html_sheets.specs.Weeks.{has_weeks, list_title};
 
 /// Which deadlines a page lists.
 #[derive(Clone, Copy)]
@@ -25,6 +25,16 @@ impl DueList {
             DueList::Today => "Today",
             DueList::Week => "This week",
             DueList::Overdue => "Overdue",
+        }
+    }
+
+    /// Whether the page leads to the days a week before and a week after.
+    pub(crate) fn has_weeks(self) -> bool
+        ensures { result ≡ has_weeks self }
+    {
+        match self {
+            DueList::Days => true,
+            DueList::Today | DueList::Week | DueList::Overdue => false,
         }
     }
 }

@@ -22,8 +22,8 @@ pub(crate) fn filed_told(filed: Filed) -> &'static str
 {
     match filed {
         Filed::Unfiled => "",
-        Filed::InTime => "<p>It was done in time.</p>\n",
-        Filed::Late => "<p class=\"late\">It was done late.</p>\n",
-        Filed::Untimed => "<p>It was done; no time was running.</p>\n",
+        Filed::InTime => "<p>By the present calendar it was done in time.</p>\n",
+        Filed::Late => "<p class=\"late\">By the present calendar it was done late.</p>\n",
+        Filed::Untimed => "<p>By the present calendar no time was running when it was done.</p>\n",
     }
 }

@@ -11,7 +11,7 @@ ghost use Rattle.html_sheets.specs.Marks.{marks};
 ghost use Rattle.html_sheets.specs.Pages.{page_head, case_row};
 ghost use Rattle.html_sheets.specs.Sheets.{case_sheet};
 ghost use Rattle.html_sheets.specs.Sites.{cases_page, search_page, case_page, days_page_head, text_page, reasons_page, court_days_page};
-ghost use Rattle.html_sheets.specs.Weeks.{days_head, week_head, due_row};
+ghost use Rattle.html_sheets.specs.Weeks.{days_head, has_weeks, week_head, due_row, named_row};
 ghost use Rattle.html_sheets.specs.Reading.{begins_reference, read_text};
 ghost use Rattle.html_sheets.specs.declared.due_list.DueList.{DueList};
 ghost use Rattle.html_sheets.specs.declared.filed.Filed.{Filed};
@@ -38,14 +38,17 @@ pub fn texts_are_read_back()
 /// entries and deadlines, and their pages. So have two pages of as many cases, if both or none lead to newer
 /// cases, and both or none to older ones; two pages of searches that found as many cases, if there are more
 /// for both or none; two pages of texts, of reasons for deadlines of which the same was filed, and of as many
-/// rows of the court's calendar.
+/// rows of the court's calendar; two lists of what is due, up to their rows, if both or none lead to other weeks.
 pub fn tags_are_the_pages_own()
     ensures heads { (title other : List ℕ) → marks (page_head title) ≡ marks (page_head other) }
     ensures cases { (case other : CaseRow) → marks (case_row case) ≡ marks (case_row other) }
-    ensures weeks { (court place : CourtSettings) (from to day later : ℕ) → marks (week_head court from to) ≡ marks (week_head place day later) }
+    ensures weeks { (list other : DueList) (court place : CourtSettings) (from to day later : ℕ) → has_weeks list ≡ has_weeks other
+        → marks (week_head list court from to) ≡ marks (week_head other place day later) }
     ensures days { (from to day later : ℕ) → marks (days_head from to) ≡ marks (days_head day later) }
     ensures dues { (links : Links) (court place : CourtSettings) (due other : DueRow) (label word caption name : List ℕ)
         → marks (due_row links court due label caption) ≡ marks (due_row links place other word name) }
+    ensures named { (court place : CourtSettings) (due other : DueRow) (label word party who caption name : List ℕ)
+        → marks (named_row court due label party caption) ≡ marks (named_row place other word who name) }
     ensures sheets { (links : Links) (court place : CourtSettings) (case other : CaseRecord) (deadlines lines : List DeadlineLine)
         → length case.parties ≡ length other.parties → length case.entries ≡ length other.entries
         → length deadlines ≡ length lines
@@ -64,6 +67,6 @@ pub fn tags_are_the_pages_own()
         → marks (reasons_page case deadline text filed) ≡ marks (reasons_page other last words filed) }
     ensures courts { (court place : CourtSettings) (rows others : List CalendarRow) → length rows ≡ length others
         → marks (court_days_page court rows) ≡ marks (court_days_page place others) }
-    ensures calendars { (list other : DueList) (court place : CourtSettings) (from to day later : ℕ)
+    ensures calendars { (list other : DueList) (court place : CourtSettings) (from to day later : ℕ) → has_weeks list ≡ has_weeks other
         → marks (days_page_head list court from to) ≡ marks (days_page_head other place day later) }
 {}

@@ -168,11 +168,11 @@ fn name_of(party: Option<&PartyRow>) -> &str
     }
 }
 
-/// The name of the party of a number in a case.
-fn party_name(case: &CaseRecord, number: u32) -> &str
-    ensures { result.now ≡ name_of (party_at case.now.parties number) }
+/// The name of the party of a number, from 1, among those of a case. It is empty if there is none.
+pub fn party_name(parties: &[PartyRow], number: u32) -> &str
+    ensures { result.now ≡ name_of (party_at parties.now number) }
 {
-    name_of(party_at(case.parties.as_slice(), number))
+    name_of(party_at(parties, number))
 }
 
 /// Adds the row of a deadline, with the name of its party.
@@ -191,7 +191,7 @@ fn push_deadline(
         number: deadline.number,
     };
     let party = PartyText(deadline.party);
-    let name = Told(party_name(case, deadline.party));
+    let name = Told(party_name(case.parties.as_slice(), deadline.party));
     let rule = RuleTold(deadline.rule.as_str());
     let standing = StandingText {
         court,

@@ -167,7 +167,7 @@ pub fn days_page_head(
 {
     let mut text = page_head(alloc, list.title())?;
     text.push_str(site_nav())?;
-    let week = week_head(alloc, court, from, to)?;
+    let week = week_head(alloc, list, court, from, to)?;
     text.push_str(&week)?;
     Ok(text)
 }

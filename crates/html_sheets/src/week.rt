@@ -1,7 +1,8 @@
 //! What is due in a week, or on other days.
 ghost use Rattle.std.specs.Prelude.{◌≡◌, IfOk, string_bytes};
-ghost use Rattle.html_sheets.specs.Weeks.{week_before, week_after, due_columns, days_head, zone_told, week_head, due_row};
+ghost use Rattle.html_sheets.specs.Weeks.{week_before, week_after, due_columns, days_head, zone_told, week_head, due_row, named_row};
 
+use crate::due_list::DueList;
 use crate::links::Links;
 use crate::piece::{CaseNumber, DeadlineNumber, Told, WeekdayTold};
 use crate::rule_words::RuleTold;
@@ -97,33 +98,64 @@ impl fmt::Display for ZoneTold<'_> {
     }
 }
 
+/// Links to the days a week before and a week after, where a list has them.
+#[derive(Clone, Copy)]
+struct WeeksNav {
+    shown: bool,
+    from: Day,
+    to: Day,
+}
+
+impl fmt::Display for WeeksNav {
+    ghost use Rattle.std.specs.Prelude.{Some};
+    ghost use Rattle.html_sheets.specs.Weeks.{weeks_nav};
+
+    ghost output = { λ weeks. Some (weeks_nav weeks.shown weeks.from weeks.to) };
+
+    fn fmt<W: fmt::Write>(&self, f: &mut fmt::Formatter<W>) -> fmt::Result {
+        match self.shown {
+            true => {
+                let before = DaysLink {
+                    from: week_before(self.from),
+                    to: week_before(self.to),
+                    words: "Week before",
+                };
+                let after = DaysLink {
+                    from: week_after(self.from),
+                    to: week_after(self.to),
+                    words: "Week after",
+                };
+                write!(
+                    f,
+                    "<nav aria-label=\"Other weeks\">{before} {after}</nav>\n"
+                )
+            }
+            false => f.write_str(""),
+        }
+    }
+}
+
 /// What is due from a day to another, up to its rows: the days, the zone of the court, links to the days a
-/// week before and a week after, and the head of the table.
+/// week before and a week after, where the list has them, and the head of the table.
 pub(crate) fn week_head(
     alloc: Global,
+    list: DueList,
     court: &Court,
     from: Day,
     to: Day,
 ) -> Result<String, AllocError>
-    ensures { IfOk result (λ text. string_bytes text ≡ week_head court.now from to) }
+    ensures { IfOk result (λ text. string_bytes text ≡ week_head list court.now from to) }
 {
     let zone = ZoneTold(court);
-    let before = DaysLink {
-        from: week_before(from),
-        to: week_before(to),
-        words: "Week before",
-    };
-    let after = DaysLink {
-        from: week_after(from),
-        to: week_after(to),
-        words: "Week after",
+    let weeks = WeeksNav {
+        shown: list.has_weeks(),
+        from,
+        to,
     };
     let from = WeekdayTold(from);
     let to = WeekdayTold(to);
     let columns = due_columns();
-    format!(in alloc;
-        "<p>{from} to {to}</p>\n{zone}\n<nav aria-label=\"Other weeks\">{before} {after}</nav>\n{columns}"
-    )
+    format!(in alloc; "<p>{from} to {to}</p>\n{zone}\n{weeks}{columns}")
 }
 
 /// The cells of an end: its day, its time, and when the clerk's office closes on it.
@@ -163,9 +195,50 @@ impl fmt::Display for EndCells<'_> {
     }
 }
 
-/// Returns the row of a deadline whose time runs. It has the day, the time and the closing of its end, the
-/// number of its case and its docket number, its number within the case, its rule, the party whose time it
-/// is, and the caption. The case and the deadline lead to their pages where there are pages.
+/// The cells of a deadline whose time runs, up to that of its party: the day, the time and the closing of its
+/// end, the number of its case and its docket number, its number within the case, and its rule. The case and
+/// the deadline lead to their pages where there are pages.
+#[derive(Clone, Copy)]
+struct DueCells<'a> {
+    links: Links,
+    court: &'a Court,
+    due: &'a DueRow,
+    label: &'a str,
+}
+
+impl fmt::Display for DueCells<'_> {
+    ghost use Rattle.std.specs.Prelude.{Some};
+    ghost use Rattle.html_sheets.specs.Weeks.{due_cells};
+
+    ghost output = { λ cells. Some (due_cells cells.links cells.court.now cells.due.now cells.label.now) };
+
+    fn fmt<W: fmt::Write>(&self, f: &mut fmt::Formatter<W>) -> fmt::Result {
+        let due = self.due;
+        let end = EndCells {
+            court: self.court,
+            close: due.close,
+            end: due.end,
+        };
+        let case = CaseNumber {
+            links: self.links,
+            number: due.case,
+        };
+        let number = DeadlineNumber {
+            links: self.links,
+            case: due.case,
+            number: due.number,
+        };
+        let label = Told(self.label);
+        let rule = RuleTold(due.rule.as_str());
+        write!(
+            f,
+            "{end}<td class=\"number\">{case}</td><td class=\"number\">{label}</td><td class=\"number\">{number}</td><td>{rule}</td>"
+        )
+    }
+}
+
+/// Returns the row of a deadline whose time runs: its cells, the number of the party whose time it is, and the
+/// caption of its case.
 pub fn due_row(
     alloc: Global,
     links: Links,
@@ -176,25 +249,36 @@ pub fn due_row(
 ) -> Result<String, AllocError>
     ensures { IfOk result (λ text. string_bytes text ≡ due_row links court.now due.now label.now caption.now) }
 {
-    let end = EndCells {
+    let cells = DueCells {
+        links,
         court,
-        close: due.close,
-        end: due.end,
+        due,
+        label,
     };
-    let case = CaseNumber {
-        links,
-        number: due.case,
-    };
-    let number = DeadlineNumber {
-        links,
-        case: due.case,
-        number: due.number,
-    };
-    let label = Told(label);
-    let rule = RuleTold(due.rule.as_str());
     let party = PartyText(due.party);
     let caption = Told(caption);
-    format!(in alloc;
-        "<tr>{end}<td class=\"number\">{case}</td><td class=\"number\">{label}</td><td class=\"number\">{number}</td><td>{rule}</td><td class=\"number\">{party}</td><td>{caption}</td></tr>\n"
-    )
+    format!(in alloc; "<tr>{cells}<td class=\"number\">{party}</td><td>{caption}</td></tr>\n")
+}
+
+/// Returns the row of a deadline on a page of the docket, which has the name of its party beside the number.
+pub fn named_row(
+    alloc: Global,
+    court: &Court,
+    due: &DueRow,
+    label: &str,
+    name: &str,
+    caption: &str,
+) -> Result<String, AllocError>
+    ensures { IfOk result (λ text. string_bytes text ≡ named_row court.now due.now label.now name.now caption.now) }
+{
+    let cells = DueCells {
+        links: Links::Pages,
+        court,
+        due,
+        label,
+    };
+    let party = PartyText(due.party);
+    let name = Told(name);
+    let caption = Told(caption);
+    format!(in alloc; "<tr>{cells}<td>{party} {name}</td><td>{caption}</td></tr>\n")
 }

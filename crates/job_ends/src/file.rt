@@ -26,6 +26,11 @@ pub enum FileFault {
 }
 
 impl fmt::Display for FileFault {
+    ghost use Rattle.std.specs.Prelude.{Some};
+    ghost use Rattle.job_ends.specs.Ends.{unopened_text};
+
+    ghost output = { λ it. Some (unopened_text it) };
+
     fn fmt<W: fmt::Write>(&self, f: &mut fmt::Formatter<W>) -> fmt::Result {
         f.write_str(match self {
             FileFault::Missing => "there is no such file",

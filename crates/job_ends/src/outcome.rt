@@ -1,13 +1,13 @@
 //! The outcome of a job on files, or why it was not done.
 ghost use Rattle.std.specs.Prelude.{◌≡◌, Ok, None, Some, IfErr, IfOk, IsErr, IsOkAnd, MatchResult, OnOk};
 ghost use Rattle.std.specs.Cow.{cow_str_bytes};
-ghost use Rattle.job_ends.specs.Ends.{SaysFault, TellsNothing, unadopted_at};
+ghost use Rattle.job_ends.specs.Ends.{SaysFault, SaysUnopened, TellsNothing, shown_at};
 
 use crate::end::JobEnd;
+use crate::fault::{Shown, Told};
 use crate::file::FileFault;
 use crate::messages::failed;
-use docket_tables::table_name;
-use file_dockets::{AdoptFault, Ended, OnFile};
+use file_dockets::{Ended, OnFile};
 use sqlite::{FileFrom, Leftover, Start};
 use std::alloc::Global;
 use std::fmt;
@@ -30,35 +30,9 @@ impl<F: fmt::Display> fmt::Display for AtPath<'_, F> {
     }
 }
 
-/// Why a docket was not adopted, and what is to be done about it.
-#[derive(Drop)]
-struct NotAdopted {
-    fault: AdoptFault,
-}
-
-impl fmt::Display for NotAdopted {
-    ghost use Rattle.std.specs.Prelude.{Some};
-    ghost use Rattle.job_ends.specs.Ends.{unadopted_text};
-
-    ghost output = { λ it. Some (unadopted_text it.fault) };
-
-    fn fmt<W: fmt::Write>(&self, f: &mut fmt::Formatter<W>) -> fmt::Result {
-        match self.fault {
-            AdoptFault::Empty => f.write_str("the database holds no docket"),
-            AdoptFault::NotADocket => f.write_str("the database is not that of a docket"),
-            AdoptFault::OtherVersion => f.write_str(
-                "the docket is laid out in another version; `docketctl migrate` takes version 1 further",
-            ),
-            AdoptFault::Damaged(table) => write!(f, "the table {} is not sound", table_name(table)),
-            AdoptFault::NoMemory => f.write_str("there is not enough memory"),
-            AdoptFault::StoreFailed => f.write_str("the database failed"),
-        }
-    }
-}
-
-/// Returns the outcome of a job on the files at a path, and what is left of them. Where it was not done,
-/// prints why and returns how the job ends.
-pub fn done<S: Start, T, F: fmt::Display + Drop, E: Write>(
+/// Returns the outcome of a work on the docket in the files at a path, and what is left of them. Where it was
+/// not done, prints why and returns how the job ends.
+pub fn done_on_docket<S: Start, T, F: Told + Drop, E: Write>(
     alloc: Global,
     path: &str,
     ended: OnFile<S, T, F>,
@@ -67,39 +41,10 @@ pub fn done<S: Start, T, F: fmt::Display + Drop, E: Write>(
     ensures done { MatchResult result (λ found. IsOkAnd ended (λ it. (it.outcome ≡ Ok found.0) × (it.left ≡ found.1)))
         (λ end. TellsNothing (cow_str_bytes end.text) end.status
         × MatchResult ended (λ it. (end.left ≡ Some it.left) × IsErr it.outcome) (λ _. end.left ≡ None)) }
-{
-    let Ended {
-        outcome,
-        failure: _,
-        left,
-    } = match ended {
-        Ok(it) => it,
-        Err((error, _)) => {
-            let fault = FileFault::from(error);
-            return Err(JobEnd::of(failed(alloc, e, &AtPath { path, fault })));
-        }
-    };
-    match outcome {
-        Ok(outcome) => Ok((outcome, left)),
-        Err(fault) => {
-            let status = failed(alloc, e, &AtPath { path, fault });
-            Err(JobEnd::of(status).with(Some(left)))
-        }
-    }
-}
-
-/// Does the same for a job on the docket that the files hold.
-pub fn done_on_docket<S: Start, T, E: Write>(
-    alloc: Global,
-    path: &str,
-    ended: OnFile<S, T>,
-    e: &mut E,
-) -> Result<(T, Leftover<FileFrom<S>>), JobEnd<FileFrom<S>>>
-    ensures done { MatchResult result (λ found. IsOkAnd ended (λ it. (it.outcome ≡ Ok found.0) × (it.left ≡ found.1)))
-        (λ end. TellsNothing (cow_str_bytes end.text) end.status
-        × MatchResult ended (λ it. (end.left ≡ Some it.left) × IsErr it.outcome) (λ _. end.left ≡ None)) }
-    // Where the docket was not adopted, the line of its fault is printed.
-    ensures said { IfOk ended (λ it. IfErr it.outcome (λ fault. SaysFault (unadopted_at path.now fault) (E.contents e.old) (E.contents e.new))) }
+    // Where the work was not done, the line of its fault is printed.
+    ensures said { IfOk ended (λ it. IfErr it.outcome (λ fault. SaysFault (shown_at path.now (Some (F.Text fault))) (E.contents e.old) (E.contents e.new))) }
+    // Where the files were not opened, the line that says why.
+    ensures unopened { IfErr ended (λ _. SaysUnopened path.now (E.contents e.old) (E.contents e.new)) }
     ensures silent { OnOk result (e.new ≡ e.old) }
 {
     let Ended {
@@ -116,7 +61,7 @@ pub fn done_on_docket<S: Start, T, E: Write>(
     match outcome {
         Ok(outcome) => Ok((outcome, left)),
         Err(fault) => {
-            let fault = NotAdopted { fault };
+            let fault = Shown { fault };
             let status = failed(alloc, e, &AtPath { path, fault });
             Err(JobEnd::of(status).with(Some(left)))
         }

@@ -50,6 +50,17 @@ pub unopened_end : {X Y L : Type 0} (ended : Result X Y) (left_of : X → L) (A 
 unopened_end (Ok it) left_of A N left is none = subst (λ o. MatchOption o N (λ _. Unit {0})) (sym is.0) tt
 unopened_end (Err y) left_of A N left is none = subst (λ o. MatchOption o N (λ _. Unit {0})) (sym is) none
 
+-- where the files were not opened, what holds then
+pub unopened_told : {X Y L : Type 0} (ended : Result X Y) (left_of : X → L) (A : X → Type 0) (W : Type 0) (left : Option L)
+    → IfErr ended (λ _. W) → MatchResult ended (λ it. (left ≡ Some (left_of it)) × A it) (λ _. left ≡ None) → MatchOption left W (λ _. Unit {0})
+unopened_told (Ok it) left_of A W left told is = subst (λ o. MatchOption o W (λ _. Unit {0})) (sym is.0) tt
+unopened_told (Err y) left_of A W left told is = subst (λ o. MatchOption o W (λ _. Unit {0})) (sym is) told
+
+-- what follows from two facts about files that were opened
+pub of_both : {X Y : Type 0} (ended : Result X Y) (P Q R : X → Type 0) → ((it : X) → P it → Q it → R it) → IfOk ended P → IfOk ended Q → IfOk ended R
+of_both (Ok it) P Q R then p q = then it p q
+of_both (Err y) P Q R then p q = tt
+
 -- a work that was done leaves this
 pub made_left : {X Y L T E : Type 0} (ended : Result X Y) (left_of : X → L) (Clean : L → Type 0) (outcome : X → Result T E) (K : L → Type 0) (found : T) (left : L)
     → IfOk ended (λ it. Clean (left_of it) → OnOk (outcome it) (K (left_of it))) → IsOkAnd ended (λ it. (outcome it ≡ Ok found) × (left_of it ≡ left)) → Clean left → K left

@@ -1,5 +1,5 @@
 -- What each job does, by what the files of its docket held, by what its input was, and by what went out on its writer.
-use Rattle.std.specs.Prelude.{◌≡◌, ◌≢◌, ℕ, ℤ, List, [], Option, Some, None, Result, Ok, Err, IfSome, MatchOption, codes, option_copied}
+use Rattle.std.specs.Prelude.{◌≡◌, ◌≢◌, ◌⊎◌, ℕ, ℤ, Bool, true, false, List, [], Option, Some, None, Result, Ok, Err, IfSome, MatchOption, codes, option_copied}
 use Rattle.std.specs.Cow.{cow_str_bytes}
 use Rattle.std.specs.Io.KnownBytes.{Appends}
 use Rattle.sqlite_disk.specs.declared.Disk.{Ghosts}
@@ -39,14 +39,21 @@ use Rattle.docket_applying.specs.CourtDockets.{CourtDocket as Docket}
 use Rattle.command_lines.specs.Lines.{bad_answers, docket_after, run_text}
 use Rattle.command_lines.specs.declared.fault.RunFault.{RunFault}
 use Rattle.file_questions.specs.CaseLists.{cases_told}
+use Rattle.file_questions.specs.Due.{text_of_due}
 use Rattle.file_changes.specs.Commands.{AppliesTo}
+use Rattle.file_changes.specs.Entering.{line_prepared}
 use Rattle.file_questions.specs.Exports.{text_of_export}
 use Rattle.file_dockets.specs.Keeping.{Keeps, rows_told}
 use Rattle.docket_store.specs.Left.{Leaves, LeavesRows}
 use Rattle.file_changes.specs.Migrates.{MigratesTo}
 use Rattle.file_changes.specs.Runs.{LeavesPrefix}
+use Rattle.entry_lines.specs.Preparing.{IsPrepared}
+use Rattle.entry_lines.specs.declared.entry.Entry.{Entry}
+use Rattle.entry_lines.specs.declared.entry.Prepared.{Prepared}
+use Rattle.entry_pages.specs.CommandList.{commands_text}
 use Rattle.explain_lines.specs.Explain.{explain_text}
 use Rattle.job_runs.specs.Checks.{check_text}
+use Rattle.job_runs.specs.Entering.{IsEntry, ShowsEntry, entry_status}
 use Rattle.job_ends.specs.Ends.{TellsNothing}
 use Rattle.job_runs.specs.Tells.{HasListed, HasTold, SaysMissing, TellsIfAny, TellsText, last_line, no_such_case, no_such_deadline}
 use Rattle.job_runs.specs.Imports.{TellsApplied, TellsFault}
@@ -99,6 +106,16 @@ module _ (Left : Rows → Rows → Type 0) where
   Runs docket input before after BadLine = ⊥
   Runs docket input before after Failed =
       (mid : Option (List ℕ)) × LeavesPrefix Left docket input before mid × (fault : RunFault) × AppendsFront mid after (last_line fault)
+
+  -- a run over the line of an entry that was prepared ended so
+  abbrev pub RunsOver : Docket → Prepared → Option (List ℕ) → Option (List ℕ) → Status → Type 0
+  RunsOver docket prepared before after status = (ran : Status) × Runs docket (line_prepared prepared) before after ran × (status ≡ entry_status prepared ran)
+
+  -- an entry is prepared by the docket, and its line answered; or the job failed before that, and the docket is left as it was
+  abbrev pub Enters : Docket → Entry → Option (List ℕ) → Option (List ℕ) → Status → Type 0
+  Enters docket entry before after status =
+      ((prepared : Prepared) × IsPrepared docket.court docket.history entry prepared × RunsOver docket prepared before after status)
+      ⊎ ((status ≡ Failed) × Runs docket [] before after Failed)
 
   -- a command had this answer, which is printed
   abbrev pub Applies : Docket → Command → List ℕ → Status → Type 0
@@ -153,6 +170,14 @@ module _ {D : Type 0} {g : Ghosts D} where
   abbrev pub Imports : Docket → List ℕ → List ℕ → Leftover D g → List ℕ → Status → Type 0
   Imports docket key input left text status = (days : List NewDay) × IsTable input days × Applies (LeavesRows left) docket (import_command key days) text status
 
+  -- what an entry would do is printed, and nothing is entered; or it is entered, and its reply goes out before the files are closed
+  abbrev pub DoesEntry : Bool → Image → Entry → Option (List ℕ) → Option (List ℕ) → JobEnd D g → Type 0
+  DoesEntry true files entry before after end = OfDocket files (λ docket. TellsOf docket (ShowsEntry docket entry) end) × (after ≡ before)
+  DoesEntry false files entry before after end =
+      IfUnopened end (after ≡ before)
+      × OfDocket files (λ docket. FailsOr end (λ left. Enters (LeavesRows left) docket entry before after end.status))
+      × (cow_str_bytes end.text ≡ [])
+
   -- what a job does: the files of its docket held this, its input and its output were these, and it ended so
   abbrev pub Does : Job → Image → Option (List ℕ) → Option (List ℕ) → Option (List ℕ) → JobEnd D g → Type 0
   Does job.Count files input before after end = IfSome input (λ bytes. Counts bytes before after end.status) × (cow_str_bytes end.text ≡ []) × (end.left ≡ None)
@@ -170,12 +195,17 @@ module _ {D : Type 0} {g : Ghosts D} where
   Does (job.Import file key) files input before after end =
       AnswersLast input before after end
       × OfDocket files (λ docket. IfSome input (λ bytes. IfSome end.left (λ left. IsCleanLeft left → Imports docket key.now bytes left (cow_str_bytes end.text) end.status)))
+  Does (job.Enter file key show kind given) files input before after end =
+      (entry : Entry) × IsEntry kind key given.items entry × DoesEntry show files entry before after end
+  Does (job.Commands kind) files input before after end = TellsText (commands_text kind) (cow_str_bytes end.text) end.status × (end.left ≡ None) × (after ≡ before)
   Does (job.Case file number) files input before after end =
       OfDocket files (λ docket. TellsOf docket (TellsIfAny (text_of_case docket.court docket.history number)) end) × (after ≡ before)
   Does (job.Cases file label party) files input before after end =
       IfUnopened end (after ≡ before) × OfDocket files (λ docket. TellsOf docket (HasListed (cases_told docket.history (option_copied label) (option_copied party)) before after) end)
   Does (job.Calendar file from to) files input before after end =
       IfUnopened end (after ≡ before) × OfDocket files (λ docket. TellsOf docket (HasTold (text_of_calendar docket.court docket.history from to) before after) end)
+  Does (job.CalendarOf file due) files input before after end =
+      IfUnopened end (after ≡ before) × ((clock : ℤ) × OfDocket files (λ docket. TellsOf docket (HasTold (text_of_due docket.court docket.history due clock) before after) end))
   Does (job.Explain file case deadline) files input before after end =
       OfDocket files (λ docket. TellsOf docket (TellsIfAny (text_of_reasons docket.court docket.history case deadline)) end) × (after ≡ before)
   Does (job.Export file from to form) files input before after end =

@@ -1,5 +1,6 @@
 pub mod Asked
 pub mod Checks
+pub mod Entering
 pub mod Imports
 pub mod Jobs
 pub mod Runs

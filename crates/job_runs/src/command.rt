@@ -49,7 +49,7 @@ fn last_line(fault: RunFault) -> &'static [u8]
 }
 
 /// Returns how a job ends from how its run ended, and prints why the run failed.
-fn tell_end<W: Write, E: Write>(
+pub(crate) fn tell_end<W: Write, E: Write>(
     alloc: Global,
     end: Result<CountEnd, RunFault>,
     w: &mut W,

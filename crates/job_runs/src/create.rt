@@ -1,11 +1,13 @@
 //! A new docket in a file.
 ghost use Rattle.std.specs.Cow.{cow_str_bytes};
 ghost use Rattle.sqlite_wal.specs.Files.{image_at};
-ghost use Rattle.job_runs.specs.Jobs.{FailsOr, Makes};
+ghost use Rattle.job_ends.specs.Ends.{SaysUnopened};
+ghost use Rattle.job_runs.specs.Jobs.{FailsOr, IfUnopened, Makes};
+ghost use Rattle.job_runs.specs.Spares.{TellsMade};
 
 use court_days::Court;
 use file_changes::create_on_file;
-use job_ends::{AtPath, FileFault, JobEnd, Status, done, failed, test_file};
+use job_ends::{AtPath, FileFault, JobEnd, Status, done_on_docket, failed, test_file};
 use sqlite::{FileFrom, Start};
 use std::borrow::CowStr;
 use std::fs::OpenOptions;
@@ -49,12 +51,14 @@ pub(crate) fn create_docket<S: Start, E: Write>(
     e: &mut E,
 ) -> JobEnd<FileFrom<S>>
     ensures made { FailsOr result (λ left. Makes (image_at S.Start) court left (cow_str_bytes result.text) result.status) }
+    ensures unopened { IfUnopened result (SaysUnopened path.now (E.contents e.old) (E.contents e.new)) }
+    ensures told { FailsOr result (λ left. TellsMade path.now (image_at S.Start) (E.contents e.old) (E.contents e.new) result.status) }
 {
     match ready_file(rt, path) {
         Ok(()) => {}
         Err(fault) => return JobEnd::of(failed(rt.alloc(), e, &AtPath { path, fault })),
     }
-    match done(rt.alloc(), path, create_on_file(rt, path, start, court), e) {
+    match done_on_docket(rt.alloc(), path, create_on_file(rt, path, start, court), e) {
         Ok((_, left)) => JobEnd {
             text: CowStr::Borrowed("created\n"),
             status: Status::Done,

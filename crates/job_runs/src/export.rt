@@ -16,7 +16,7 @@ use std::io::Write;
 use std::time::{Clock, SystemTime, UNIX_EPOCH};
 
 /// Returns the seconds since 1970-01-01T00:00Z, or 0 where the clock can't be read.
-fn seconds_now<C: Clock>(clock: &C) -> i64 {
+pub(crate) fn seconds_now<C: Clock>(clock: &C) -> i64 {
     let Ok(now) = SystemTime::now(clock) else {
         return 0;
     };

@@ -11,10 +11,13 @@ use crate::cases::tell_cases;
 use crate::check::tell_check;
 use crate::command::{run_commands, run_in_memory};
 use crate::create::create_docket;
+use crate::due::tell_due;
+use crate::entering::enter_words;
 use crate::explain::explain_all;
 use crate::export::tell_export;
 use crate::holiday::tell_holidays;
 use crate::import::import_days;
+use crate::kinds::tell_kinds;
 use crate::migrate::migrate_docket;
 use crate::progress::Progress;
 use crate::rules::tell_table;
@@ -83,6 +86,18 @@ pub fn run_job<S: Start, P: Write + Drop, R: Read, W: Write + Drop, E: Write>(
             let end = import_days(rt, start, screen, file, key, r, &mut w, e);
             (end, w)
         }
+        Job::Enter {
+            file,
+            key,
+            show,
+            kind,
+            given,
+        } => {
+            let words = given.as_slice();
+            let end = enter_words(rt, start, screen, file, key, show, kind, words, &mut w, e);
+            (end, w)
+        }
+        Job::Commands { kind } => (tell_kinds(rt.alloc(), kind, e), w),
         Job::Case { file, number } => {
             let case = CaseText { number };
             (tell_text(rt, start, screen, file, case, NO_SUCH_CASE, e), w)
@@ -94,6 +109,10 @@ pub fn run_job<S: Start, P: Write + Drop, R: Read, W: Write + Drop, E: Write>(
         }
         Job::Calendar { file, from, to } => {
             let end = tell_calendar(rt, start, screen, file, from, to, &mut w, e);
+            (end, w)
+        }
+        Job::CalendarOf { file, due } => {
+            let end = tell_due(rt, start, screen, file, due, &mut w, e);
             (end, w)
         }
         Job::Explain {

@@ -6,12 +6,13 @@ ghost use Rattle.docket_scan.specs.Dockets.{MayHold};
 ghost use Rattle.docket_applying.specs.Applying.{IsDocket};
 ghost use Rattle.docket_store.specs.Migrating.{HoldFirst};
 ghost use Rattle.docket_applying.specs.CourtDockets.{CourtDocket as Told};
-ghost use Rattle.job_runs.specs.Jobs.{FailsOr, Migrates};
+ghost use Rattle.job_ends.specs.Ends.{SaysUnopened};
+ghost use Rattle.job_runs.specs.Jobs.{FailsOr, IfUnopened, Migrates};
 ghost use Rattle.job_runs.specs.Spares.{Moves};
 
 use crate::opening::ready;
 use file_changes::migrate_on_file;
-use job_ends::{JobEnd, Status, done};
+use job_ends::{JobEnd, Status, done_on_docket};
 use sqlite::{FileFrom, Start};
 use std::borrow::CowStr;
 use std::io::Write;
@@ -26,13 +27,14 @@ pub(crate) fn migrate_docket<S: Start, P: Write + Drop, E: Write>(
 ) -> JobEnd<FileFrom<S>>
     ensures migrated { (told : Told) → IsDocket told.court told.history → MayHold First told.history → HoldFirst (image_at S.Start) told.court told.history
         → FailsOr result (λ left. Migrates told left (cow_str_bytes result.text) result.status) }
-    ensures spared { FailsOr result (λ left. Moves (image_at S.Start) left result.status) }
+    ensures unopened { IfUnopened result (SaysUnopened path.now (E.contents e.old) (E.contents e.new)) }
+    ensures spared { FailsOr result (λ left. Moves path.now (image_at S.Start) (E.contents e.old) (E.contents e.new) left result.status) }
 {
     let rows = match ready(rt, path, screen, e) {
         Ok(rows) => rows,
         Err(status) => return JobEnd::of(status),
     };
-    match done(rt.alloc(), path, migrate_on_file(rt, path, start, rows), e) {
+    match done_on_docket(rt.alloc(), path, migrate_on_file(rt, path, start, rows), e) {
         Ok((_, left)) => JobEnd {
             text: CowStr::Borrowed("migrated\n"),
             status: Status::Done,

@@ -1,5 +1,6 @@
 //! The file that a job works on, before it is opened.
-ghost use Rattle.std.specs.Prelude.{◌≡◌, IfErr, OnOk};
+ghost use Rattle.std.specs.Prelude.{◌≡◌, IfErr, OnErr, OnOk};
+ghost use Rattle.job_ends.specs.Ends.{SaysUnopened};
 
 use crate::progress::RowCounter;
 use job_ends::{AtPath, Status, failed, test_file};
@@ -29,6 +30,7 @@ pub(crate) fn ready<'a, P: Write + Drop, E: Write>(
     e: &mut E,
 ) -> Result<RowCounter<&'a HostRuntime, P>, Status>
     ensures failed { IfErr result (λ status. status ≡ Status.Failed) }
+    ensures said { OnErr result (SaysUnopened path.now (E.contents e.old) (E.contents e.new)) }
     ensures silent { OnOk result (e.new ≡ e.old) }
 {
     if let Some(screen) = &mut screen {

@@ -1,9 +1,5 @@
-use Rattle.std.proofs.Common.{refl, sym, subst}
 use Rattle.http_request.specs.Request.{body_of}
-use Rattle.docket_http.specs.Answer.{problem_response}
-use Rattle.docket_http.specs.Asking.{IsClosedReply, problem_of_fault}
-use Rattle.docket_http.specs.declared.problem.Problem.{Problem}
-use Rattle.docket_http.specs.declared.reply.Reply.TheVariants.{Fixed}
+use Rattle.docket_http.specs.Asking.{problem_of_fault, problem_to}
 use Rattle.docket_http.proofs.AskingLemmas.{problem_told, reply_told}
 use Rattle.docket_http.proofs.RecordedLemmas.{problem_backed}
 use Rattle.docket_http.proofs.answering.reply_of.Goals as goal
@@ -21,15 +17,15 @@ returns-in-Err g c =
     let now = c.reply_to.new.docket in
     let wish = c.args.request.now.wish in
     let body = body_of c.args.request.now in
+    let problem = problem_of_fault c.in-Err.fault in
     let done = c.in-Err.ensures in
+    let reports = c.failure_reply.ensures in
     record {
-      answered = λ h stands clean. problem_told g.S.Store now h wish body c.in-Err.fault c.problem_of.result c.problem_of.ensures (done.replies h stands) clean;
+      answered = λ h stands clean. problem_told g.S.Store now h wish body c.in-Err.fault c.failure_reply.result reports (done.replies h stands) clean;
       only = record {
         writes = done.only.writes;
         still = done.only.still;
-        closed = λ shut.
-            let closed = done.only.closed shut in
-            (closed.0, subst (λ (p : Problem). IsClosedReply wish body (Fixed p)) (sym c.problem_of.ensures) (problem_response (problem_of_fault c.in-Err.fault), (refl, refl), closed.1));
-        recorded = λ rows. problem_backed g.S.Store now wish body c.problem_of.result;
+        closed = λ shut. let closed = done.only.closed shut in (closed.0, (problem_to wish problem, reports, closed.1));
+        recorded = λ rows. problem_backed g.S.Store now wish body problem c.failure_reply.result reports;
       };
     }

@@ -3,17 +3,19 @@ use Rattle.std.specs.List.{slice_range}
 use Rattle.docket_text.specs.HolidayTexts.{holiday_text}
 use Rattle.http_request.specs.Request.{body_of}
 use Rattle.http_request.specs.declared.wish.Wish.TheVariants.{Reject, Refuse, Command, Form, Preview, Case, Copy, Deadlines, Holidays, Page}
-use Rattle.docket_http.specs.Answer.{fine, refusal_page}
+use Rattle.docket_http.specs.Answer.{fine, problem_page, problem_response, refusal_page}
 use Rattle.docket_http.specs.Asking.{IsBuilt}
 use Rattle.docket_http.specs.declared.head.Form.TheVariants.{Text}
+use Rattle.docket_http.specs.declared.failure.Failure.TheVariants as failure
 use Rattle.docket_http.specs.declared.problem.Problem.TheVariants.{NoCopy, Rejected}
+use Rattle.docket_http.specs.declared.reply.Reply.TheVariants.{Fixed, Shown}
 use Rattle.docket_http.proofs.OnlyLemmas.{alone, at_once, question, replies_as}
 use Rattle.docket_http.proofs.answering.reply_to.Goals as goal
 
 pub returns-in-Reject : goal.returns-in-Reject
 returns-in-Reject g c =
     let rejection = c.in-Reject.rejection in
-    at_once g.S.Store c.args.docket.now c.args.request.now.wish (Reject rejection) (body_of c.args.request.now) (Rejected rejection) c.in-Reject.is refl (λ court h. refl) refl
+    at_once g.S.Store c.args.docket.now c.args.request.now.wish (Reject rejection) (body_of c.args.request.now) (problem_response (Rejected rejection)) (Fixed (Rejected rejection)) c.in-Reject.is refl (refl, refl) (λ court h. refl) refl
 
 pub returns-in-Refuse : goal.returns-in-Refuse
 returns-in-Refuse g c =
@@ -23,7 +25,7 @@ returns-in-Refuse g c =
     c.in-Refuse.is refl refl (λ court h. refl) (inl refl) (inr refl) written.reply written.short
 
 pub returns-in-Copy : goal.returns-in-Copy
-returns-in-Copy g c = at_once g.S.Store c.args.docket.now c.args.request.now.wish Copy (body_of c.args.request.now) NoCopy c.in-Copy.is refl (λ court h. refl) refl
+returns-in-Copy g c = at_once g.S.Store c.args.docket.now c.args.request.now.wish Copy (body_of c.args.request.now) (problem_page NoCopy) (Shown failure.NoCopy) c.in-Copy.is refl (refl, refl) (λ court h. refl) refl
 
 pub returns-in-Calendar : goal.returns-in-Calendar
 returns-in-Calendar g c = absurd (subst IsBuilt c.in-Calendar.is c.requires.whole)

@@ -1,6 +1,7 @@
 use Rattle.std.proofs.Common.{◌∙◌, Err, Some, ap, inl, inr, refl}
 use Rattle.docket_applying.proofs.AnyLemmas.{answered_one, err_ok}
-use Rattle.docket_http.specs.Answer.{problem_response}
+use Rattle.docket_http.specs.Answer.{problem_said}
+use Rattle.docket_http.specs.Asking.{problem_to}
 use Rattle.docket_http.specs.Entering.{fault_response, manner_of, said_response}
 use Rattle.docket_http.specs.declared.problem.Problem.TheVariants.{Closed, NoMemory}
 use Rattle.docket_http.proofs.AskingLemmas.{built_replied, err_closed, fault_left, halted_replied, no_error, passed_on, said_left}
@@ -31,7 +32,8 @@ returns-in_err-said-in-Ok g c = λ wish body is.
         still = entered_still g.S.Store c.args.docket.now now wish body _ entered;
         closed = λ shut.
             let closed = failed.closed shut in
-            (closed.1, closed_told wish body result (err_closed result fault told closed.0) ((entering wish body _ entered).closed (problem_response Closed) (inl refl)));
+            let enters = entering wish body _ entered in
+            (closed.1, closed_told wish body result (err_closed result fault told closed.0) (enters.closed (problem_to wish Closed) (inl (ap (λ b. problem_said b Closed) enters.browser))));
         recorded = λ docket. err_ok result _ _ told;
       };
     }
@@ -76,6 +78,6 @@ returns-in-Err g c = λ wish body is.
     record {
       replies = λ h stands. built_replied g.S.Store docket h wish body (fault_response manner fault) result written.reply written.short enters.takes (λ clean. fault_left g.S.Store docket h wish body manner fault entered stands);
       only = unasked g.S.Store docket wish body result
-          (closed_built wish body (fault_response manner fault) result written.reply written.short (enters.closed (fault_response manner fault) (inl refl)) (enters.closed (problem_response NoMemory) (inr refl)))
+          (closed_built wish body (fault_response manner fault) result written.reply written.short (enters.closed (fault_response manner fault) (inl refl)) (enters.closed (problem_to wish NoMemory) (inr refl)))
           (fault_backed g.S.Store docket fault manner wish body result entered written.reply);
     }

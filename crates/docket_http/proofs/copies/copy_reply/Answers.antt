@@ -1,6 +1,6 @@
 use Rattle.std.proofs.Common.{◌≡◌, ℕ, List, Option, None, Some, inl, inr, refl, subst, sym}
 use Rattle.std.specs.Option.{option_map}
-use Rattle.docket_http.specs.Answer.{Response, fine, problem_response}
+use Rattle.docket_http.specs.Answer.{Response, fine, problem_page}
 use Rattle.docket_http.specs.Serve.{IsCopyAnswer}
 use Rattle.docket_http.specs.declared.head.Form.TheVariants.{File}
 use Rattle.docket_http.specs.declared.problem.Problem.TheVariants.{NoCopy, NoMemory}
@@ -15,7 +15,7 @@ returns-in-Ok c =
 
 pub returns-in-Err : goal.returns-in-Err
 returns-in-Err c =
-    (problem_response NoMemory, (refl, refl), answer_as (λ bytes. bytes.items) (Some c.in-Some.bytes) c.args.copy (problem_response NoMemory) c.in-Some.is (inr refl))
+    (problem_page NoMemory, (refl, refl), answer_as (λ bytes. bytes.items) (Some c.in-Some.bytes) c.args.copy (problem_page NoMemory) c.in-Some.is (inr refl))
 
 pub returns-in-None : goal.returns-in-None
-returns-in-None c = (problem_response NoCopy, (refl, refl), answer_as (λ bytes. bytes.items) None c.args.copy (problem_response NoCopy) c.in-None.is refl)
+returns-in-None c = (problem_page NoCopy, (refl, refl), answer_as (λ bytes. bytes.items) None c.args.copy (problem_page NoCopy) c.in-None.is refl)

@@ -1,23 +1,18 @@
-use Rattle.std.proofs.lemmas.Result.{err_from_is_err_and}
-use Rattle.docket_jobs.proofs.ReadingLemmas.{asked_found, free_line, line_taken, line_refused, value_refused}
+use Rattle.std.proofs.Common.{◌≡◌, ◌∙◌, map, string_bytes, sym, true}
+use Rattle.docket_jobs.specs.Jobs.{asked_behind, asked_of, faults_behind, faults_of, is_entry}
+use Rattle.docket_jobs.proofs.EntryLemmas.{asked_there, faults_same, faults_there, job_same}
 use Rattle.docket_jobs.proofs.job.read_job.Goals as goal
 
-pub returns-in_err-matches-clause-fault : goal.returns-in_err-matches-clause-fault
-returns-in_err-matches-clause-fault c =
-    let p = err_from_is_err_and c.from_residual-in_err-matches.result c.from_residual-in_err-matches.ensures.1 in
-    rw (p.1, p.2) (line_refused _ _ c.in_err-matches.field-0.0 c.in_ok-command.ensures.0 (c.in_err-matches.ensures.kinds (free_line _ c.in_ok-command.ensures.0)))
+pub returns-then-is_entry-clause-job : goal.returns-then-is_entry-clause-job
+returns-then-is_entry-clause-job c =
+    let there : is_entry (map string_bytes c.args.words.now) ≡ true = sym c.is_entry.ensures ∙ c.if-is_entry.true in
+    job_same (asked_of (map string_bytes c.args.words.now)) (asked_behind c.word_at.result.now (map string_bytes c.behind_two.result.now)) c.read_entry.result
+    (asked_there c.args.words.now c.behind_two.result.now c.word_at.result.now there c.word_at.ensures c.behind_two.ensures) c.read_entry.ensures.job
 
-pub returns-in-Ok-Ok-clause-job : goal.returns-in-Ok-Ok-clause-job
-returns-in-Ok-Ok-clause-job c =
-    asked_found _ _ _ _ c.in_ok-command.ensures.0 c.in_ok-matches.ensures.ok.2 (rw c.in-Ok-Ok.field-0-is at c.in-Ok-Ok.ensures.job)
-
-pub returns-in-Ok-Ok-clause-fault : goal.returns-in-Ok-Ok-clause-fault
-returns-in-Ok-Ok-clause-fault c =
-    let found = asked_found _ _ _ _ c.in_ok-command.ensures.0 c.in_ok-matches.ensures.ok.2 (rw c.in-Ok-Ok.field-0-is at c.in-Ok-Ok.ensures.job) in
-    line_taken _ _ _ c.in_ok-command.ensures.0 (c.in_ok-matches.ensures.kinds (free_line _ c.in_ok-command.ensures.0)) found
-
-pub returns-in-Ok-Err-clause-fault : goal.returns-in-Ok-Err-clause-fault
-returns-in-Ok-Err-clause-fault c =
-    let found = asked_found _ _ _ _ c.in_ok-command.ensures.0 c.in_ok-matches.ensures.ok.2 (rw c.in-Ok-Err.field-0-is at c.in-Ok-Err.ensures.job) in
-    value_refused _ _ c.in_ok-told-in-Ok-Err.field-0 c.in_ok-command.ensures.0 (c.in_ok-matches.ensures.kinds (free_line _ c.in_ok-command.ensures.0)) found
-    c.in_ok-told-in-Ok-Err.ensures
+pub returns-then-is_entry-clause-fault : goal.returns-then-is_entry-clause-fault
+returns-then-is_entry-clause-fault c =
+    let there : is_entry (map string_bytes c.args.words.now) ≡ true = sym c.is_entry.ensures ∙ c.if-is_entry.true in
+    faults_same (faults_of (map string_bytes c.args.words.now)) (faults_behind c.word_at.result.now (map string_bytes c.behind_two.result.now))
+    (asked_of (map string_bytes c.args.words.now)) (asked_behind c.word_at.result.now (map string_bytes c.behind_two.result.now)) c.read_entry.result
+    (faults_there c.args.words.now c.behind_two.result.now c.word_at.result.now there c.word_at.ensures c.behind_two.ensures)
+    (asked_there c.args.words.now c.behind_two.result.now c.word_at.result.now there c.word_at.ensures c.behind_two.ensures) c.read_entry.ensures.fault

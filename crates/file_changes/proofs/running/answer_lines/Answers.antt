@@ -10,7 +10,7 @@ use Rattle.file_changes.proofs.running.answer_lines.Goals as goal
 
 pub returns-clause-answers : goal.returns-clause-answers
 returns-clause-answers g c told stands =
-    let run = c.command_run-outcome in
+    let run = c.command_run-end in
     let known = g.R.Read.remaining c.args.reader.now in
     let before = g.W.Write.contents c.args.writer.now in
     let after = g.W.Write.contents run.new.writer in

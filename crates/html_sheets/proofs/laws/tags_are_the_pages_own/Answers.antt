@@ -1,4 +1,4 @@
-use Rattle.html_sheets.proofs.TagLemmas.{page_heads, case_rows, days_heads, week_heads, due_rows, case_sheets, cases_pages, search_pages, case_pages, days_pages, text_pages, reasons_pages, court_days_pages}
+use Rattle.html_sheets.proofs.TagLemmas.{page_heads, case_rows, days_heads, week_heads, due_rows, named_rows, case_sheets, cases_pages, search_pages, case_pages, days_pages, text_pages, reasons_pages, court_days_pages}
 use Rattle.html_sheets.proofs.laws.tags_are_the_pages_own.Goals as goal
 
 pub returns-clause-heads : goal.returns-clause-heads
@@ -8,13 +8,16 @@ pub returns-clause-cases : goal.returns-clause-cases
 returns-clause-cases c = λ case other. (case_rows case other).is
 
 pub returns-clause-weeks : goal.returns-clause-weeks
-returns-clause-weeks c = λ court place from to day later. (week_heads court place from to day later).is
+returns-clause-weeks c = λ list other court place from to day later weeks. (week_heads list other court place from to day later weeks).is
 
 pub returns-clause-days : goal.returns-clause-days
 returns-clause-days c = λ from to day later. (days_heads from to day later).is
 
 pub returns-clause-dues : goal.returns-clause-dues
 returns-clause-dues c = λ links court place due other label word caption name. (due_rows links court place due other label word caption name).is
+
+pub returns-clause-named : goal.returns-clause-named
+returns-clause-named c = λ court place due other label word party who caption name. (named_rows court place due other label word party who caption name).is
 
 pub returns-clause-sheets : goal.returns-clause-sheets
 returns-clause-sheets c = λ links court place case other deadlines lines parties entries count. (case_sheets links court place case other deadlines lines parties entries count).is
@@ -29,7 +32,7 @@ pub returns-clause-pages : goal.returns-clause-pages
 returns-clause-pages c = λ court place case other deadlines lines parties entries count. (case_pages court place case other deadlines lines parties entries count).is
 
 pub returns-clause-calendars : goal.returns-clause-calendars
-returns-clause-calendars c = λ list other court place from to day later. (days_pages list other court place from to day later).is
+returns-clause-calendars c = λ list other court place from to day later weeks. (days_pages list other court place from to day later weeks).is
 
 pub returns-clause-texts : goal.returns-clause-texts
 returns-clause-texts c = λ title other text words. (text_pages title other text words).is

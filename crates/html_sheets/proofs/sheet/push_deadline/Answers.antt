@@ -14,4 +14,4 @@ returns c =
     let row = c.args.deadline.now in
     let case = c.args.case.now in
     let parts = deadline_parts (deadline_number c.args.links case.number row.number) (party_text row.party) (told c.party_name.result.now) (rule_told c.as_str.result.now) (standing_text c.args.court.now row.close row.standing) in
-    rw (c.party_name.ensures, c.as_str.ensures) at (on_ok_weaker c.write.result (λ is. is ∙ ap (λ (bytes : List ℕ). string_bytes c.args.text.now ++ bytes) parts) c.write.ensures.bytes)
+    rw (c.party_name.ensures, c.as_slice.ensures, c.as_str.ensures) at (on_ok_weaker c.write.result (λ is. is ∙ ap (λ (bytes : List ℕ). string_bytes c.args.text.now ++ bytes) parts) c.write.ensures.bytes)

@@ -1,7 +1,10 @@
-use Rattle.std.proofs.Common.{subst, sym}
+use Rattle.std.proofs.Common.{List, subst, sym}
 use Rattle.sqlite_wal.specs.Files.{image_at}
+use Rattle.command_forms.specs.declared.given.FieldText.{FieldText}
 use Rattle.docket_jobs.specs.declared.job.Job.{Job}
-use Rattle.job_runs.specs.Jobs.{Does}
+use Rattle.entry_lines.specs.declared.entry.Entry.{Entry}
+use Rattle.job_runs.specs.Entering.{IsEntry}
+use Rattle.job_runs.specs.Jobs.{Does, DoesEntry}
 use Rattle.job_runs.proofs.job.run_job.Goals as goal
 
 pub returns-in-Serve-clause-does : goal.returns-in-Serve-clause-does
@@ -9,3 +12,12 @@ returns-in-Serve-clause-does g c =
     let served = c.serve_docket-end in
     subst (λ (j : Job). Does j (image_at g.S.Start) (g.R.Read.remaining c.args.r.now) (g.W.Write.contents c.args.w) (g.W.Write.contents served.new.w) served.result) (sym c.in-Serve.is)
     (served.ensures.serves _ c.service_of-service.ensures, served.ensures.unopened, served.ensures.untold)
+
+pub returns-in-Enter-clause-does : goal.returns-in-Enter-clause-does
+returns-in-Enter-clause-does g c =
+    let entered = c.enter_words-end in
+    let before = g.W.Write.contents c.args.w in
+    let after = g.W.Write.contents entered.new.w in
+    subst (λ (j : Job). Does j (image_at g.S.Start) (g.R.Read.remaining c.args.r.now) before after entered.result) (sym c.in-Enter.is)
+    (subst (λ (given : List FieldText). (entry : Entry) × IsEntry c.in-Enter.kind c.in-Enter.key given entry × DoesEntry c.in-Enter.show (image_at g.S.Start) entry before after entered.result)
+    c.as_slice-words.ensures.value entered.ensures.does)

@@ -1,4 +1,4 @@
-use Rattle.std.proofs.Common.{refl}
+use Rattle.std.proofs.Common.{None, Ok, refl}
 use Rattle.docket_applying.specs.CourtDockets.{StandsAs}
 use Rattle.file_dockets.proofs.AdoptLemmas.{adopted_all, rejected}
 use Rattle.file_changes.proofs.RunLemmas.{ran, unran}
@@ -6,10 +6,10 @@ use Rattle.file_changes.proofs.running.RunWork.work.Goals as goal
 
 pub returns-in-Ok-clause-comes : goal.returns-in-Ok-clause-comes
 returns-in-Ok-clause-comes g c =
-    let lines = c.answer_lines in
-    ran g.S.Store c.args.conn lines.result.connection _ _ _ lines.result.failure lines.result.outcome
-    (adopted_all g.S.Store c.args.conn c.in-Ok.docket c.in-Ok.field-0-1 lines.result.connection lines.result.failure lines.result.outcome c.in-Ok.ensures.told c.in-Ok.ensures.writes_nothing.clean
-    lines.ensures.trust lines.ensures.adopted)
+    let lines = c.answer_lines-end in
+    ran g.S.Store c.args.conn lines.result.1 _ _ _ None (Ok lines.result.0)
+    (adopted_all g.S.Store c.args.conn c.in-Ok.docket c.in-Ok.field-0-1 lines.result.1 None (Ok lines.result.0) c.in-Ok.ensures.told c.in-Ok.ensures.writes_nothing.clean
+    lines.ensures.trust tt)
     (λ told is stands clean.
     let adopted = c.in-Ok.ensures.adopted told.court told.history is stands (lines.ensures.trust clean) in
     let here : StandsAs g.S.Store c.in-Ok.docket told = record { court = adopted.1; stands = adopted.0 } in

@@ -1,0 +1,5 @@
+mod AnswerLemmas
+mod FieldLemmas
+mod GivenLemmas
+mod PreparingLemmas
+mod TextLemmas

@@ -1,0 +1,5 @@
+pub mod Names
+pub mod Lines
+pub mod Giving
+pub mod Preparing
+pub mod Saying

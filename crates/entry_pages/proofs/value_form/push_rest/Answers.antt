@@ -1,0 +1,7 @@
+use Rattle.entry_pages.specs.ValueForms.{next_word}
+use Rattle.entry_pages.proofs.FieldLemmas.{pushed_on}
+use Rattle.entry_pages.proofs.value_form.push_rest.Goals as goal
+
+pub loop-choice-preserved : goal.loop-choice-preserved
+loop-choice-preserved c =
+    pushed_on (λ choice. next_word (choice.0.now, choice.1.now)) c.args.choices.now c.loop-choice.choice-index _ _ _ _ c.loop-choice-test.true c.loop-choice.invariant c.in_ok-push_next.ensures

@@ -1,0 +1,40 @@
+use Rattle.std.proofs.Common.{◌∙◌, to_z, of_z, w64, refl, ap}
+use Rattle.std.specs.Cow.{cow_str_bytes}
+use Rattle.file_questions.specs.Due.{due_days, text_of_due}
+use Rattle.job_runs.specs.Tells.{HasTold}
+use Rattle.job_runs.proofs.AskLemmas.{fails, if_unopened, none_out, spares, tells}
+use Rattle.job_runs.proofs.EndLemmas.{some_left}
+use Rattle.job_runs.proofs.OutLemmas.{calendar_out}
+use Rattle.job_runs.proofs.due.tell_due.Goals as goal
+
+pub returns-in-Ok : goal.returns-in-Ok
+returns-in-Ok g c = record {
+  told = (
+    to_z w64 (of_z w64 c.seconds_now.result),
+    λ docket is files.
+        let clock = to_z w64 (of_z w64 c.seconds_now.result) in
+        let days = due_days docket.court c.args.due clock in
+        let wanted = text_of_due docket.court docket.history c.args.due clock in
+        let before = g.W.Write.contents c.args.w.now in
+        let after = g.W.Write.contents c.ask.new.w in
+        tells c.with.result c.in-Ok.left c.with.ensures.left docket _ (HasTold wanted before after) _ _ (ap cow_str_bytes c.with.ensures.text ∙ c.of.ensures.text) (c.with.ensures.status ∙ c.of.ensures.status)
+        (c.in-Ok.ensures.told docket is files)
+        (λ lists. c.writing_status.ensures wanted before after (calendar_out docket.court docket.history days.0 days.1 before after c.in-Ok.end lists)),
+  );
+  unopened = some_left c.with.result.left c.in-Ok.left _ (λ left. Unit {0}) c.with.ensures.left tt;
+  spared = spares c.with.result c.in-Ok.left c.with.ensures.left c.args.path.now _ _ _ c.in-Ok.ensures.spared;
+}
+
+pub returns-in-Err : goal.returns-in-Err
+returns-in-Err g c = record {
+  told = (
+    to_z w64 (of_z w64 c.seconds_now.result),
+    λ docket is files.
+        let wanted = text_of_due docket.court docket.history c.args.due (to_z w64 (of_z w64 c.seconds_now.result)) in
+        let before = g.W.Write.contents c.args.w.now in
+        let after = g.W.Write.contents c.ask.new.w in
+        fails c.in-Err.end docket (HasTold wanted before after) (none_out before after wanted (ap g.W.Write.contents {x = c.ask.new.w} {y = c.args.w.now} c.in-Err.ensures.unwritten), refl) (c.in-Err.ensures.told docket is files),
+  );
+  unopened = if_unopened c.in-Err.end.left _ (ap g.W.Write.contents {x = c.ask.new.w} {y = c.args.w.now} c.in-Err.ensures.unwritten);
+  spared = c.in-Err.ensures.spared;
+}
