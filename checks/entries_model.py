@@ -99,12 +99,17 @@ def entry(kind, fresh, texts, said="", would=""):
     return page(begun + TITLES[kind], above + form(kind, fresh, texts, marked))
 
 
+def kinds_in_groups():
+    """The headings of the kinds that are entered, and the kinds below each."""
+    line = next(line for line in spec(PAGES + "Kinds.antt") if line.startswith("groups ="))
+    return [(heading, listed.split(" ∷ ")) for heading, listed in re.findall(rf"\({CODES}, (.*?) ∷ \[\]\)", line)]
+
+
 def kinds_page(said=""):
     """All kinds that have a form, under headings."""
     begun, alert = sentence(said) if said else ("", "")
-    line = next(line for line in spec(PAGES + "Kinds.antt") if line.startswith("kind_groups ="))
     groups = ""
-    for heading, listed in re.findall(rf"kind_group \({CODES}\) \((.*?) ∷ \[\]\)", line):
-        links = "".join(f"<li>{link('enter/' + WORDS[kind], TITLES[kind])}</li>\n" for kind in listed.split(" ∷ "))
+    for heading, listed in kinds_in_groups():
+        links = "".join(f"<li>{link('enter/' + WORDS[kind], TITLES[kind])}</li>\n" for kind in listed)
         groups += f"<h2>{heading}</h2>\n<ul>\n{links}</ul>\n"
     return page(begun + "Enter", alert + groups)

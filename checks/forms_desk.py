@@ -2,40 +2,22 @@
 import json
 import os
 import re
-import subprocess
 import urllib.parse
 
-from forms_data import COURT, WITHOUT_CASE
+from forms_data import WITHOUT_CASE
 from forms_pages import ALERT, FILL, FORM, WOULD
 from http_clients import Server, get
 from served_dockets import rows
+from twin_dockets import check, make, written, written_all
 
 POLICY = "default-src 'none'; style-src 'unsafe-inline'; form-action 'self'; base-uri 'none'; frame-ancestors 'none'"
 BUTTON = "form[action='/pages/commands'] button"
 SHOW = "button[formaction='/pages/previews']"
-counts = {True: 0, False: 0}
-
-
-def check(name, found, wanted):
-    """Counts a check, and prints a line of what is not as wanted."""
-    counts[found == wanted] += 1
-    if found != wanted:
-        print(f"{name}: FAILED: {found!r:.300} and not {wanted!r:.300}", flush=True)
-    return found == wanted
-
-
-def written(value):
-    """A value of a command as a form has it."""
-    return str(value).lower() if isinstance(value, bool) else str(value)
 
 
 def is_number(text):
     """Whether a link may have it: a number from 1 to 4294967295."""
     return text.isdigit() and 0 < int(text) < 2**32
-
-
-def written_all(fields):
-    return {name: written(value) for name, value in fields.items()}
 
 
 def path_after(kind, fields, reply):
@@ -180,12 +162,3 @@ class Desk:
         if marked is not None:
             check(f"{name}: what is marked", form["marked"], marked)
         return said[0] if said else "", form["marked"]
-
-
-def make(program, path, lines):
-    """Makes a docket, and has it take commands, each of which is accepted."""
-    subprocess.run([program, "create", "--db", path, *COURT], stdout=subprocess.DEVNULL, check=True)
-    text = "".join(json.dumps(line) + "\n" for line in lines)
-    done = subprocess.run([program, "run", "--db", path], input=text.encode(), capture_output=True)
-    if done.returncode != 0:
-        raise RuntimeError(f"{path}: {[line for line in done.stdout.decode().splitlines() if 'number' not in line][:3]} {done.stderr.decode()}")

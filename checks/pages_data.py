@@ -15,6 +15,8 @@ CASES = [(1, "1:25-cv-00001", "2025-06-02", 'Roe & Sons v. <b>"O\'Brien"</b>'), 
 PARTY, RULE = "</td><script>", "12(a)(1)(A)(i)"
 DUE = ("2025-07-07", "24:00", "17:00", 1, 1, RULE, "1")
 HOURS = ("2025-07-09", "10:30", "--:--", 2, 1, "order", "-")
+DOE = "Doe-Öz"
+NAMES = {(1, "1"): PARTY, (2, "1"): DOE}
 COMMANDS = [
     {"do": "open_case", "key": "k1", "label": CASES[0][1], "caption": CASES[0][3], "filed": CASES[0][2]},
     {"do": "open_case", "key": "k2", "label": CASES[1][1], "caption": CASES[1][3], "filed": CASES[1][2]},
@@ -31,13 +33,13 @@ SET = f"{LAST}day set by the court; it stays, whatever day it is\n"
 MOVED = (f"2025-05-02 Fri  summons and complaint served; 21 days after, {RULE}\n{LAST}counted to this day, 6(a)(1)(A), (B)\n{LAST}the period ends, 6(a)(1)(C)\n"
          "2025-05-20 Tue  motion under 12(b) served; the time is suspended, 12(a)(4)\n")
 FILED = [
-    (2, SET + "2025-05-23T23:59-04:00 Fri  done electronically\ndone\n", "<p>It was done in time.</p>\n"),
-    (3, SET + "2025-05-24T00:00-04:00 Sat  done electronically\ndone\n", '<p class="late">It was done late.</p>\n'),
-    (4, MOVED + "2025-05-26T09:00-04:00 Mon  done at the clerk's office\ndone\n", "<p>It was done; no time was running.</p>\n"),
+    (2, SET + "2025-05-23T23:59-04:00 Fri  done electronically\ndone\n", "<p>By the present calendar it was done in time.</p>\n"),
+    (3, SET + "2025-05-24T00:00-04:00 Sat  done electronically\ndone\n", '<p class="late">By the present calendar it was done late.</p>\n'),
+    (4, MOVED + "2025-05-26T09:00-04:00 Mon  done at the clerk's office\ndone\n", "<p>By the present calendar no time was running when it was done.</p>\n"),
 ]
 FILINGS = [
     *(({"do": "order_period", "key": f"s{number}", "case": 2, "party": 0, "unit": "fixed", "until": "2025-05-23"}, number) for number in (2, 3)),
-    ({"do": "add_party", "key": "p2", "case": 2, "name": "Doe-Öz", "role": "defendant"}, 1),
+    ({"do": "add_party", "key": "p2", "case": 2, "name": DOE, "role": "defendant"}, 1),
     ({"do": "serve_summons", "key": "s4", "case": 2, "party": 1, "basis": "private", "served": "2025-05-02"}, 4),
     ({"do": "rule_motion", "key": "m4", "case": 2, "deadline": 4, "kind": "b", "served": "2025-05-20"}, 4),
     ({"do": "satisfy", "key": "f2", "case": 2, "deadline": 2, "at": "2025-05-23T23:59-04:00", "way": "electronic"}, 1),
@@ -51,8 +53,8 @@ def cases(listed, newer=None, older=None):
     return shown(page("Cases", cases_table(listed) + (nav("More cases", links) if links else "")))
 
 
-def days(first, last, *listed, title="Deadlines"):
-    return shown(days_page(first, last, listed, CASES, title))
+def days(first, last, *listed, title=""):
+    return shown(days_page(first, last, listed, CASES, NAMES, title))
 
 
 def found(words, *listed):
@@ -93,6 +95,16 @@ def night():
     # of a docket in memory there is no file to copy: the caller is told that one is asked for
     yield got("/pages/backup"), b"a copy of the docket is asked for"
     yield got("/cases/1/deadlines"), answer(200, "text/plain; charset=utf-8", f"deadline 1 party 1 {RULE} {due}\n".encode())
+    yield from named()
+
+
+def named():
+    """On one day four deadlines: of a party of the first case, of a party, of every party and of that party again of the second."""
+    for case, party, deadline in ((2, 1, 5), (1, 1, 2), (2, 0, 6), (2, 1, 7)):
+        yield posted({"do": "order_period", "key": f"n{case}-{deadline}", "case": case, "party": party, "unit": "fixed", "until": "2025-08-01"}), reply(deadline)
+    end = ("2025-08-01", "24:00", "17:00")
+    yield (got("/pages/calendar/2025-08-01/2025-08-01"),
+           days("2025-08-01", "2025-08-01", (*end, 1, 2, "order", "1"), (*end, 2, 5, "order", "1"), (*end, 2, 6, "order", "-"), (*end, 2, 7, "order", "1")))
 
 
 def filings():
@@ -145,8 +157,8 @@ def exports():
     case = (1, "1:25-cv-00012", "2025-06-02", 'Roe, "Jr." v. <Doe>; & Co.')
     due = [("2025-07-07", "15:30", "--:--", 1, 2, "order", "-"), DUE]
     sheet = case_sheet(case, [("defendant", "Doe")], [("2025-06-02", "Complaint")], [(1, RULE, "due 2025-07-07 24:00 17:00"), (0, "order", "due 2025-07-07T15:30-04:00")], False)
-    for title, content in (("Deadlines", days_told("2025-07-01", "2025-07-31") + due_table(due, [case], False)), (case[1], sheet),
-                           ("Deadlines", days_told("1980-01-01", "1980-01-01") + due_table([], [], False))):
+    for title, content in (("Deadlines", days_told("2025-07-01", "2025-07-31") + due_table(due, [case])), (case[1], sheet),
+                           ("Deadlines", days_told("1980-01-01", "1980-01-01") + due_table([], []))):
         yield "".join(f"> {line}\n" for line in page(title, content, "").splitlines())
 
 

@@ -11,7 +11,7 @@ WEEKDAYS = ("Mon", "Tue", "Wed", "Thu", "Fri", "Sat", "Sun")
 ZONE = "EST5EDT,M3.2.0,M11.1.0"
 POLICY = "default-src 'none'; style-src 'unsafe-inline'; form-action 'self'; base-uri 'none'; frame-ancestors 'none'"
 STATUS = {200: "OK", 303: "See Other", 400: "Bad Request", 403: "Forbidden", 404: "Not Found", 405: "Method Not Allowed", 409: "Conflict", 411: "Length Required",
-          413: "Payload Too Large", 415: "Unsupported Media Type"}
+          413: "Payload Too Large", 415: "Unsupported Media Type", 500: "Internal Server Error", 503: "Service Unavailable"}
 CODES = r'codes "((?:[^"\\]|\\.)*)"'
 
 
@@ -168,12 +168,14 @@ def case_sheet(case, parties, entries, deadlines, served_too=True):
             + "".join(f"<h2>{name}</h2>\n" + rows(columns, [head(heads.get(name, str)(at)) + row for at, row in enumerate(cells, 1)]) for name, columns, cells in tables))
 
 
-def due_table(listed, cases, served_too=True):
-    """What is due: day, time, closing, case, deadline, rule, party; the docket number and the caption are those of the case."""
+def due_table(listed, cases, names=None):
+    """What is due: day, time, closing, case, deadline, rule, party; the docket number and the caption are those of the case. Where the docket
+    is served there are links, and each party has its name, by its case and its number."""
     columns = ("Day", "Time", "Closing", "Case", "Docket number", "Deadline", "Rule", "Party", "Caption")
-    links = (case_link, deadline_link) if served_too else (lambda case: case, lambda _, deadline: deadline)
+    links = (lambda case: case, lambda _, deadline: deadline) if names is None else (case_link, deadline_link)
+    party_of = (lambda _, party: number(party)) if names is None else (lambda case, party: cell(f"{party} {told(names.get((case, party), ''))}"))
     return rows(columns, [head(weekday(on)) + number(at) + number(closing) + number(links[0](case)) + number(told(cases[case - 1][1])) + number(links[1](case, deadline)) + cell(worded(rule, told(rule)))
-                          + number(party) + cell(told(cases[case - 1][3])) for on, at, closing, case, deadline, rule, party in listed])
+                          + party_of(case, party) + cell(told(cases[case - 1][3])) for on, at, closing, case, deadline, rule, party in listed])
 
 
 def days_told(first, last):
@@ -186,11 +188,11 @@ def days_away(text, count):
     return str(date.fromordinal(min(max(away, date(1980, 1, 1).toordinal()), date(3999, 12, 31).toordinal())))
 
 
-def days_page(first, last, listed, cases, title="Deadlines"):
-    """What is due on some days, with links to those a week before and after."""
+def days_page(first, last, listed, cases, names, title=""):
+    """What is due on some days, with links to those a week before and after; a list with a title of its own has none."""
     weeks = " ".join(link(f"calendar/{days_away(first, by)}/{days_away(last, by)}", words) for by, words in ((-7, "Week before"), (7, "Week after")))
     zone = f"<p>Times are local, in the zone {told(ZONE)}</p>\n"
-    return page(title, days_told(first, last) + zone + nav("Other weeks", weeks) + due_table(listed, cases))
+    return page(title or "Deadlines", days_told(first, last) + zone + ("" if title else nav("Other weeks", weeks)) + due_table(listed, cases, names))
 
 
 def deadline_page(case, deadline, steps, filed=""):
@@ -235,6 +237,13 @@ def refusal(word):
     status, name = REFUSALS[word]
     sentence = next(literals(behind)[0] for before, behind in table("docket_http/specs/Answer.antt", "rejection_sentence") if before == [name])
     return shown(page("Request refused", lines(sentence)), status)
+
+
+def failed(name):
+    """The answer to a request for a page where the server fails: a small page, without links on top and without a style."""
+    found = re.search(rf"^problem_page {name} = failure_page (\d+) \({CODES}\)", "\n".join(spec("docket_http/specs/Answer.antt")), re.M)
+    return shown('<!DOCTYPE html>\n<html lang="en">\n<head>\n<meta charset="utf-8">\n<title>Not answered</title>\n</head>\n<body>\n<h1>Not answered</h1>\n'
+                 f'<p>{literal(found[2])}</p>\n<p>{link("cases", "Cases")}</p>\n</body>\n</html>\n', int(found[1]))
 
 
 def error(status, word):
