@@ -72,10 +72,6 @@ module _ {S : Type 0} (g : Ghosts S) (conn : Held S) (rows : Rows) where
   err_preserves fault (Ok x) same left = absurd same
   err_preserves fault (Err f) same left = subst (PreservesAt g conn rows) (sym same) left
 
-  -- out of memory
-  pub short_preserves : {X : Type 0} (res : Result X Fault) → IsErrAnd res (λ f. f ≡ NoMemory) → HoldsRows g conn rows → Preserves g conn rows res
-  short_preserves = err_preserves NoMemory
-
   -- a command
 
   module _ (court : CourtSettings) (n : ℕ) (c : Command) where

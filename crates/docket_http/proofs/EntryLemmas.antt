@@ -3,7 +3,7 @@ use Rattle.std.proofs.Common.{◌≡◌, IsTrue, ℕ, List, Some, refl, subst}
 use Rattle.court_days.specs.Court.{CourtSettings}
 use Rattle.docket_history.specs.Histories.{History}
 use Rattle.http_request.specs.declared.wish.Wish.{Wish}
-use Rattle.http_request.specs.declared.wish.Wish.TheVariants.{Reject, Refuse, Command as CommandWish, Form as FormWish, Preview, Case, Deadlines, Calendar, Holidays, Page as PageWish, Copy}
+use Rattle.http_request.specs.declared.wish.Wish.TheVariants.{Reject, Refuse, Command as CommandWish, Form as FormWish, Preview, Case, Deadlines, Calendar, Holidays, Page as PageWish, Export as ExportWish, Copy}
 use Rattle.docket_http.specs.Answer.{Response}
 use Rattle.docket_http.specs.Asking.{IsClosedAnswer, IsUnlessShort, asks_docket, is_of_pages, response_to, takes_memory}
 use Rattle.docket_http.specs.Entering.{Entry, closed_entry, entry_of, entry_response, form_entry, is_for_browser, line_entry}
@@ -30,5 +30,6 @@ entering (Case number) body e is = absurd (cc)
 entering (Deadlines number) body e is = absurd (cc)
 entering (Calendar from to) body e is = absurd (cc)
 entering (Holidays year) body e is = absurd (cc)
-entering (PageWish page) body e is = absurd (cc)
+entering (PageWish page fresh) body e is = absurd (cc)
+entering (ExportWish form days fresh) body e is = absurd (cc)
 entering Copy body e is = absurd (cc)

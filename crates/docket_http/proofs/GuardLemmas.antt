@@ -6,7 +6,7 @@ use Rattle.http_request.specs.Head.{head_of}
 use Rattle.http_request.specs.Request.{IsRequest, IsLetThrough}
 use Rattle.http_request.specs.declared.page.Routes.{Routes}
 use Rattle.http_request.specs.declared.wish.Wish.{Wish}
-use Rattle.http_request.specs.declared.wish.Wish.TheVariants.{Reject, Refuse, Command, Form, Preview, Case, Deadlines, Calendar, Holidays, Page, Copy}
+use Rattle.http_request.specs.declared.wish.Wish.TheVariants.{Reject, Refuse, Command, Form, Preview, Case, Deadlines, Calendar, Holidays, Page, Export, Copy}
 use Rattle.http_request.proofs.GuardLemmas.{let_through_by}
 use Rattle.docket_http.specs.Asking.{history_after}
 
@@ -21,5 +21,6 @@ let_through routes fresh input (Case n) body court h is changes = absurd (change
 let_through routes fresh input (Deadlines n) body court h is changes = absurd (changes refl)
 let_through routes fresh input (Calendar from to) body court h is changes = absurd (changes refl)
 let_through routes fresh input (Holidays year) body court h is changes = absurd (changes refl)
-let_through routes fresh input (Page page) body court h is changes = absurd (changes refl)
+let_through routes fresh input (Page page n) body court h is changes = absurd (changes refl)
+let_through routes fresh input (Export form days n) body court h is changes = absurd (changes refl)
 let_through routes fresh input Copy body court h is changes = absurd (changes refl)

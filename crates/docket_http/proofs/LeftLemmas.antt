@@ -17,13 +17,13 @@ use Rattle.docket_wire.specs.declared.fault.WireFault.{WireFault}
 use Rattle.http_request.specs.declared.fields.Rejection.{Rejection}
 use Rattle.http_request.specs.declared.fields.Rejection.TheVariants as rejection
 use Rattle.http_request.specs.declared.wish.Wish.{Wish}
-use Rattle.http_request.specs.declared.wish.Wish.TheVariants.{Reject, Refuse, Command as CommandWish, Form as FormWish, Preview, Case, Deadlines, Calendar, Holidays, Page as PageWish, Copy}
+use Rattle.http_request.specs.declared.wish.Wish.TheVariants.{Reject, Refuse, Command as CommandWish, Form as FormWish, Preview, Case, Deadlines, Calendar, Holidays, Page as PageWish, Export as ExportWish, Copy}
 use Rattle.docket_http.specs.Answer.{Response, found, problem_said, rejection_status}
 use Rattle.docket_http.specs.Asking.{IsAnswered, LeftBy, history_after, is_of_pages, response_to, text_of_page, told}
 use Rattle.docket_http.specs.Entering.{Manner, in_json, in_pages, command_response, outcome_response, said_response}
 use Rattle.docket_http.specs.Previews.{outcome_previewed, reading_previewed}
 use Rattle.docket_http.specs.declared.head.Form.{Form}
-use Rattle.docket_http.specs.declared.head.Form.TheVariants.{File, Html, Json, OpenText, Seen, Text}
+use Rattle.docket_http.specs.declared.head.Form.TheVariants.{Export, File, Html, Json, OpenText, Seen, Text}
 use Rattle.docket_http.specs.declared.problem.Problem.{Problem}
 use Rattle.docket_http.specs.declared.problem.Problem.TheVariants.{Rejected, NoSuchCase, NoCopy, NoMemory, Store, Closed, Damaged}
 
@@ -71,6 +71,7 @@ found_fine Json None = refl
 found_fine Text None = refl
 found_fine OpenText None = refl
 found_fine Html None = refl
+found_fine (Export form) None = refl
 found_fine File None = refl
 found_fine (Seen place) None = refl
 found_fine form (Some body) = refl
@@ -85,7 +86,8 @@ response_fine court h (Case number) body = found_fine Text (text_of_case court h
 response_fine court h (Deadlines number) body = found_fine Text (text_of_deadlines court h number)
 response_fine court h (Calendar from to) body = refl
 response_fine court h (Holidays year) body = refl
-response_fine court h (PageWish page) body = found_fine Html (text_of_page court h page)
+response_fine court h (PageWish page fresh) body = found_fine Html (text_of_page court h fresh page)
+response_fine court h (ExportWish form days fresh) body = refl
 response_fine court h Copy body = refl
 
 -- what is sent in the place of an answer has it if the database failed alone

@@ -1,15 +1,23 @@
 -- The bytes of an answer: a status line and two to five fields, each ended by CR LF, an empty line, and the body.
 use Rattle.std.specs.Prelude.{ℕ, Bool, true, false, List, [], ◌∷◌, ◌++◌, length, Option, Some, None, codes, decimal}
 use Rattle.http.specs.StatusCode.{status_text}
+use Rattle.http_request.specs.declared.export.Export.{Export as Exported}
+use Rattle.http_request.specs.declared.export.Export.TheVariants as export
 use Rattle.http_request.specs.declared.fields.Rejection.{Rejection}
 use Rattle.http_request.specs.declared.fields.Rejection.TheVariants.{HeadTooLong, BadHead, NotFound, Method, BadPathValue, LengthRequired, TooLong, Foreign, MediaType}
 use Rattle.html_sheets.specs.Sites.{text_page}
 use Rattle.docket_http.specs.Places.{path_of}
 use Rattle.docket_http.specs.declared.head.Form.{Form}
-use Rattle.docket_http.specs.declared.head.Form.TheVariants.{Json, Text, OpenText, Html, File, Seen}
+use Rattle.docket_http.specs.declared.head.Form.TheVariants.{Json, Text, OpenText, Html, Export, File, Seen}
 use Rattle.docket_http.specs.declared.place.Place.{Place}
 use Rattle.docket_http.specs.declared.problem.Problem.{Problem}
 use Rattle.docket_http.specs.declared.problem.Problem.TheVariants.{Rejected, NoSuchCase, NoCopy, NoMemory, Store, Closed, Damaged}
+
+-- the line of what an export is (RFC 5545, section 8.1; RFC 4180, section 3)
+abbrev pub export_line : Exported → List ℕ
+export_line export.Calendar = codes "content-type: text/calendar; charset=utf-8\r\n"
+export_line export.Csv = codes "content-type: text/csv; charset=utf-8\r\n"
+export_line export.Json = codes "content-type: application/json\r\n"
 
 -- the line of what the body is; an answer with another place to look at has the line of that place (RFC 9110, section 10.2.2)
 abbrev pub type_line : Form → List ℕ
@@ -17,6 +25,7 @@ type_line Json = codes "content-type: application/json\r\n"
 type_line Text = codes "content-type: text/plain; charset=utf-8\r\n"
 type_line OpenText = codes "content-type: text/plain; charset=utf-8\r\n"
 type_line Html = codes "content-type: text/html; charset=utf-8\r\n"
+type_line (Export form) = export_line form
 type_line File = codes "content-type: application/vnd.sqlite3\r\n"
 type_line (Seen place) = codes "location: " ++ (path_of place ++ codes "\r\n")
 
@@ -25,18 +34,20 @@ abbrev pub length_line : Form → ℕ → List ℕ
 length_line Json len = codes "content-length: " ++ (decimal len ++ codes "\r\n")
 length_line Text len = codes "content-length: " ++ (decimal len ++ codes "\r\n")
 length_line Html len = codes "content-length: " ++ (decimal len ++ codes "\r\n")
+length_line (Export form) len = codes "content-length: " ++ (decimal len ++ codes "\r\n")
 length_line File len = codes "content-length: " ++ (decimal len ++ codes "\r\n")
 length_line (Seen place) len = codes "content-length: " ++ (decimal len ++ codes "\r\n")
 length_line OpenText len = []
 
 -- what a page may do in a browser (Content Security Policy): it is styled by what stands in it, and its forms ask this server. It runs no
--- script, takes nothing from elsewhere and is shown in no other page. And no browser keeps it (RFC 9111, 5.2.2.5): what is due changes. A file is
--- saved and not shown (RFC 6266)
+-- script, takes nothing from elsewhere and is shown in no other page. And no browser keeps it (RFC 9111, 5.2.2.5), nor an export: what is due
+-- changes. A file is saved and not shown (RFC 6266)
 abbrev pub policy_line : Form → List ℕ
 policy_line Html =
     codes "content-security-policy: default-src 'none'; style-src 'unsafe-inline'; form-action 'self'; base-uri 'none'; frame-ancestors 'none'\r\n"
     ++ codes "cache-control: no-store\r\n"
 policy_line File = codes "content-disposition: attachment; filename=\"docket.db\"\r\n" ++ codes "cache-control: no-store\r\n"
+policy_line (Export form) = codes "cache-control: no-store\r\n"
 policy_line (Seen place) = codes "cache-control: no-store\r\n"
 policy_line Json = []
 policy_line Text = []

@@ -14,25 +14,24 @@ use Rattle.docket_applying.specs.declared.fault.Fault.{Fault}
 use Rattle.docket_applying.specs.declared.fault.Fault.TheVariants as fault
 use Rattle.docket_calendar.specs.Calendar.{text_of_calendar}
 use Rattle.docket_questions.specs.Searches.{page_of_search}
-use Rattle.docket_questions.specs.Texts.{page_of_case, page_of_cases, page_of_days, page_of_reasons, page_of_rules, text_of_case, text_of_deadlines}
+use Rattle.docket_questions.specs.Texts.{page_of_case, page_of_cases, page_of_reasons, page_of_rules, text_of_case, text_of_deadlines}
 use Rattle.docket_text.specs.HolidayTexts.{holiday_text}
 use Rattle.entry_pages.specs.Forms.{about_pairs}
 use Rattle.entry_pages.specs.Pages.{entry_page, kinds_page}
 use Rattle.entry_pages.specs.Saying as saying
 use Rattle.html_sheets.specs.Sites.{court_days_page}
-use Rattle.html_sheets.specs.declared.due_list.DueList.{DueList}
-use Rattle.html_sheets.specs.declared.due_list.DueList.TheVariants as list
 use Rattle.html_sheets.specs.declared.about.About.{About}
 use Rattle.http_request.specs.declared.page.Page.{Page}
 use Rattle.http_request.specs.declared.page.Page.TheVariants as page
 use Rattle.http_request.specs.declared.wish.Wish.{Wish}
-use Rattle.http_request.specs.declared.wish.Wish.TheVariants.{Reject, Refuse, Command as CommandWish, Form as FormWish, Preview, Case, Deadlines, Calendar, Holidays, Page as PageWish, Copy}
+use Rattle.http_request.specs.declared.wish.Wish.TheVariants.{Reject, Refuse, Command as CommandWish, Form as FormWish, Preview, Case, Deadlines, Calendar, Holidays, Page as PageWish, Export as ExportWish, Copy}
+use Rattle.docket_http.specs.Asked.{exported, listed, listed_by, text_asked}
 use Rattle.docket_http.specs.Answer.{Response, fine, found, problem_page, problem_response, problem_said, refusal_page}
-use Rattle.docket_http.specs.Due.{due_days, list_of}
 use Rattle.docket_http.specs.Entering.{after_reading, closed_entry, entry_of, entry_response, form_entry, line_entry}
+use Rattle.docket_http.specs.Moments.{day_of_request}
 use Rattle.docket_http.specs.Previews.{preview_response}
 use Rattle.docket_http.specs.Reply.{IsReply}
-use Rattle.docket_http.specs.declared.head.Form.TheVariants.{Text, OpenText, Html}
+use Rattle.docket_http.specs.declared.head.Form.TheVariants.{Text, OpenText, Html, Export}
 use Rattle.docket_http.specs.declared.problem.Problem.{Problem}
 use Rattle.docket_http.specs.declared.problem.Problem.TheVariants.{Rejected, NoCopy, NoMemory, Store, Closed, Damaged}
 use Rattle.docket_http.specs.declared.reply.Reply.{Reply}
@@ -41,22 +40,22 @@ use Rattle.docket_http.specs.declared.reply.Reply.{Reply}
 abbrev pub form_about : CommandName → ℕ → About → List ℕ
 form_about kind fresh about = entry_page kind fresh (about_pairs about) saying.nothing
 
--- what is listed of the deadlines by the day of the request
-abbrev pub page_of_due : DueList → CourtSettings → History → ℕ × ℕ → List ℕ
-page_of_due list court h days = page_of_days list court h days.0 days.1
+-- the text of a page on a day, if what it shows exists; the request has that number
+abbrev pub text_on : CourtSettings → History → ℕ → ℕ → Page → Option (List ℕ)
+text_on court h day fresh (page.Cases before) = Some (page_of_cases h before day)
+text_on court h day fresh (page.Case number) = page_of_case court h number day
+text_on court h day fresh (page.Days from to) = Some (text_asked court h (listed from to day))
+text_on court h day fresh (page.Due due) = Some (text_asked court h (listed_by due day fresh))
+text_on court h day fresh (page.Search words) = Some (page_of_search h words day)
+text_on court h day fresh page.CourtDays = Some (court_days_page court (standing_rows h) day)
+text_on court h day fresh page.Rules = Some (page_of_rules h day)
+text_on court h day fresh (page.Reasons case deadline) = page_of_reasons court h case deadline day
+text_on court h day fresh page.Kinds = Some (kinds_page saying.nothing)
+text_on court h day fresh (page.Enter kind about) = Some (form_about kind fresh about)
 
--- the text of a page, if what it shows exists
-abbrev pub text_of_page : CourtSettings → History → Page → Option (List ℕ)
-text_of_page court h (page.Cases before) = Some (page_of_cases h before)
-text_of_page court h (page.Case number) = page_of_case court h number
-text_of_page court h (page.Days from to) = Some (page_of_days list.Days court h from to)
-text_of_page court h (page.Due due fresh) = Some (page_of_due (list_of due) court h (due_days court due fresh))
-text_of_page court h (page.Search words) = Some (page_of_search h words)
-text_of_page court h page.CourtDays = Some (court_days_page court (standing_rows h))
-text_of_page court h page.Rules = Some (page_of_rules h)
-text_of_page court h (page.Reasons case deadline) = page_of_reasons court h case deadline
-text_of_page court h page.Kinds = Some (kinds_page saying.nothing)
-text_of_page court h (page.Enter kind about fresh) = Some (form_about kind fresh about)
+-- the same on the day of the request
+abbrev pub text_of_page : CourtSettings → History → ℕ → Page → Option (List ℕ)
+text_of_page court h fresh page = text_on court h (day_of_request court fresh) fresh page
 
 -- the answer to a request with this body; a docket has no copy of its own file to send
 abbrev pub response_to : CourtSettings → History → Wish → List ℕ → Response
@@ -69,7 +68,8 @@ response_to court h (Case number) body = found Text (text_of_case court h number
 response_to court h (Deadlines number) body = found Text (text_of_deadlines court h number)
 response_to court h (Calendar from to) body = fine OpenText (text_of_calendar court h from to)
 response_to court h (Holidays year) body = fine Text (holiday_text year)
-response_to court h (PageWish page) body = found Html (text_of_page court h page)
+response_to court h (PageWish page fresh) body = found Html (text_of_page court h fresh page)
+response_to court h (ExportWish form days fresh) body = fine (Export form) (text_asked court h (exported form days fresh))
 response_to court h Copy body = problem_page NoCopy
 
 -- the history after the request: only a command that it enters adds to it
@@ -79,7 +79,7 @@ history_after court h wish body = option_map_or (λ e. after_reading court h e.r
 -- whether the page needs the docket
 abbrev pub asks_for_page : Page → Bool
 asks_for_page page.Kinds = false
-asks_for_page (page.Enter kind about fresh) = false
+asks_for_page (page.Enter kind about) = false
 asks_for_page _ = true
 
 -- whether the answer needs the docket
@@ -88,7 +88,7 @@ asks_docket (Reject rejection) = false
 asks_docket (Refuse rejection) = false
 asks_docket (Holidays year) = false
 asks_docket Copy = false
-asks_docket (PageWish page) = asks_for_page page
+asks_docket (PageWish page fresh) = asks_for_page page
 asks_docket _ = true
 
 -- whether the answer needs memory: that in JSON to a request that is refused by its head is a constant
@@ -115,10 +115,11 @@ IsBuilt (Preview len fresh) = Unit {0}
 IsBuilt (Case number) = Unit {0}
 IsBuilt (Deadlines number) = Unit {0}
 IsBuilt (Holidays year) = Unit {0}
-IsBuilt (PageWish page) = Unit {0}
+IsBuilt (PageWish page fresh) = Unit {0}
+IsBuilt (ExportWish form days fresh) = Unit {0}
 IsBuilt Copy = Unit {0}
 
--- whether the request is for what stands behind "/pages", so that its answer is for a browser
+-- whether the request is for what stands behind "/pages" and no export, so that its answer is for a browser
 abbrev pub is_of_pages : Wish → Bool
 is_of_pages (Reject rejection) = false
 is_of_pages (Refuse rejection) = true
@@ -129,7 +130,8 @@ is_of_pages (Case number) = false
 is_of_pages (Deadlines number) = false
 is_of_pages (Calendar from to) = false
 is_of_pages (Holidays year) = false
-is_of_pages (PageWish page) = true
+is_of_pages (PageWish page fresh) = true
+is_of_pages (ExportWish form days fresh) = false
 is_of_pages Copy = true
 
 -- the problem that is sent in the place of an answer: a page to a browser, else JSON
@@ -171,10 +173,10 @@ module _ {S : Type 0} (g : Ghosts S) where
 abbrev pub IsUnlessShort : Bool → Response → Response → Type 0
 IsUnlessShort browser usual response = (response ≡ usual) ⊎ (response ≡ problem_said browser NoMemory)
 
-abbrev pub IsClosedPage : Page → Response → Type 0
-IsClosedPage page.Kinds response = IsUnlessShort true (fine Html (kinds_page saying.nothing)) response
-IsClosedPage (page.Enter kind about fresh) response = IsUnlessShort true (fine Html (form_about kind fresh about)) response
-IsClosedPage _ response = response ≡ problem_page Closed
+abbrev pub IsClosedPage : Page → ℕ → Response → Type 0
+IsClosedPage page.Kinds fresh response = IsUnlessShort true (fine Html (kinds_page saying.nothing)) response
+IsClosedPage (page.Enter kind about) fresh response = IsUnlessShort true (fine Html (form_about kind fresh about)) response
+IsClosedPage _ fresh response = response ≡ problem_page Closed
 
 -- the answer on a closed docket: a request that needs the docket gets that it is closed, and any other its usual answer. Memory may run out
 -- while a command is read, or a page or holidays are written
@@ -187,7 +189,8 @@ IsClosedAnswer (Preview len fresh) body response = IsUnlessShort true (closed_en
 IsClosedAnswer (Case number) body response = response ≡ problem_response Closed
 IsClosedAnswer (Deadlines number) body response = response ≡ problem_response Closed
 IsClosedAnswer (Calendar from to) body response = response ≡ problem_response Closed
-IsClosedAnswer (PageWish page) body response = IsClosedPage page response
+IsClosedAnswer (PageWish page fresh) body response = IsClosedPage page fresh response
+IsClosedAnswer (ExportWish form days fresh) body response = response ≡ problem_response Closed
 IsClosedAnswer Copy body response = response ≡ problem_page NoCopy
 IsClosedAnswer (Holidays year) body response = IsUnlessShort false (fine Text (holiday_text year)) response
 

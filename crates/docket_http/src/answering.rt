@@ -11,7 +11,7 @@ ghost use Rattle.docket_http.specs.Asking.{IsBuilt, IsAnswered};
 ghost use Rattle.docket_http.specs.Recorded.{OnlyReplies, RepliesTo};
 ghost use Rattle.docket_http.specs.Reply.{IsReply};
 
-use crate::asking::{page_reply, question_reply};
+use crate::asking::{export_reply, page_reply, question_reply};
 use crate::commands::{command_reply, form_reply};
 use crate::failure::{Failure, failure_reply};
 use crate::head::Form;
@@ -48,7 +48,8 @@ fn reply_to<S: Alter>(
         Wish::Deadlines(number) => {
             question_reply(alloc, docket, Form::Text, &DeadlinesText { number })
         }
-        Wish::Page(page) => page_reply(alloc, docket, page),
+        Wish::Page(page, fresh) => page_reply(alloc, docket, page, fresh),
+        Wish::Export(export, days, fresh) => export_reply(alloc, docket, export, days, fresh),
         // Not reached: a calendar is not built before it is written.
         Wish::Calendar(..) => Ok(Reply::Fixed(Problem::Damaged)),
         Wish::Holidays(year) => fine_reply(alloc, Form::Text, holiday_text(alloc, year)),

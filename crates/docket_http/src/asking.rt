@@ -3,26 +3,28 @@ ghost use Rattle.std.specs.Prelude.{◌≡◌, ℕ, List, IfErr, IfOk, string_by
 ghost use Rattle.docket_history.specs.Histories.{History};
 ghost use Rattle.docket_applying.specs.Applying.{Asks, Stands};
 ghost use Rattle.docket_store.specs.Asking.{OnlyAnswers};
-ghost use Rattle.http_request.specs.declared.wish.Wish.TheVariants.{Page as PageWish};
+ghost use Rattle.http_request.specs.declared.wish.Wish.TheVariants.{Export as ExportWish, Page as PageWish};
 ghost use Rattle.docket_applying.specs.declared.fault.Fault.TheVariants.{NoMemory};
 ghost use Rattle.docket_http.specs.Answer.{found, missing};
 ghost use Rattle.docket_http.specs.Asking.{form_about};
 ghost use Rattle.docket_http.specs.Recorded.{RepliesTo};
 ghost use Rattle.docket_http.specs.Reply.{IsReply};
+ghost use Rattle.docket_http.specs.declared.head.Form.TheVariants.{Html};
 
-use crate::due::{due_days, list_of};
+use crate::dues::{exported, listed, listed_by};
 use crate::head::Form;
+use crate::moment::day_of_request;
 use crate::problem::Problem;
 use crate::reply::{Reply, built, fine_reply, words_reply};
+use court_days::Day;
 use docket_command::CommandName;
 use docket_questions::{
-    CasePage, CasesPage, CourtDaysPage, DaysPage, Question, ReasonsPage, RulesPage, SearchPage,
+    CasePage, CasesPage, CourtDaysPage, Question, ReasonsPage, RulesPage, SearchPage,
 };
 use docket_store::{Docket, Fault};
 use entry_pages::{Said, about_pairs, entry_page, kinds_page};
-use html_sheets::DueList;
 use http::StatusCode;
-use http_request::{About, Page};
+use http_request::{About, Export, Page};
 use sqlite::Alter;
 use std::alloc::{AllocError, Global};
 
@@ -70,39 +72,67 @@ fn form_text(
     entry_page(alloc, kind, fresh, &pairs, Said::Nothing)
 }
 
-/// Returns a page: what it shows of the docket, or that there is no such case or deadline. The pages on which a
-/// command is entered ask for no docket.
+/// Returns the page that answers a question, or that what it asks about does not exist.
+fn shown_reply<S: Alter, Q: Question>(
+    alloc: Global,
+    docket: &mut Docket<S>,
+    question: &Q,
+) -> Result<Reply, Fault>
+    ensures answer { (h : History) → Stands S.Store docket.old h
+        → Asks S.Store docket.new h (λ reply. IsReply reply (found Html (Q.Text question.now docket.old.court h))) result }
+    ensures only { OnlyAnswers S.Store docket.old docket.new result }
+{
+    question_reply(alloc, docket, Form::Html, question)
+}
+
+/// Returns a page, with the day of the request: what it shows of the docket, or that there is no such case or
+/// deadline. The pages on which a command is entered ask for no docket.
 pub(crate) fn page_reply<S: Alter>(
     alloc: Global,
     docket: &mut Docket<S>,
     page: Page,
+    fresh: u64,
 ) -> Result<Reply, Fault>
-    ensures { (body : List ℕ) → RepliesTo S.Store docket.old docket.new (PageWish page) body result }
+    ensures { (body : List ℕ) → RepliesTo S.Store docket.old docket.new (PageWish page fresh) body result }
 {
+    let day = day_of_request(docket.court(), fresh);
     match page {
-        Page::Cases(before) => question_reply(alloc, docket, Form::Html, &CasesPage { before }),
-        Page::Case(number) => question_reply(alloc, docket, Form::Html, &CasePage { number }),
-        Page::Days(from, to) => {
-            let list = DueList::Days;
-            question_reply(alloc, docket, Form::Html, &DaysPage { list, from, to })
-        }
-        Page::Due(due, fresh) => {
-            let list = list_of(due);
-            let (from, to) = due_days(docket.court(), due, fresh);
-            question_reply(alloc, docket, Form::Html, &DaysPage { list, from, to })
-        }
+        Page::Cases(before) => shown_reply(alloc, docket, &CasesPage { before, day }),
+        Page::Case(number) => shown_reply(alloc, docket, &CasePage { number, day }),
+        Page::Days(from, to) => shown_reply(alloc, docket, &listed(from, to, day)),
+        Page::Due(due) => shown_reply(alloc, docket, &listed_by(due, day, fresh)),
         Page::Search(words) => {
             let words = words.as_str();
-            question_reply(alloc, docket, Form::Html, &SearchPage { words })
+            shown_reply(alloc, docket, &SearchPage { words, day })
         }
-        Page::CourtDays => question_reply(alloc, docket, Form::Html, &CourtDaysPage),
-        Page::Rules => question_reply(alloc, docket, Form::Html, &RulesPage),
-        Page::Reasons(case, deadline) => {
-            question_reply(alloc, docket, Form::Html, &ReasonsPage { case, deadline })
-        }
+        Page::CourtDays => shown_reply(alloc, docket, &CourtDaysPage { day }),
+        Page::Rules => shown_reply(alloc, docket, &RulesPage { day }),
+        Page::Reasons(case, deadline) => shown_reply(
+            alloc,
+            docket,
+            &ReasonsPage {
+                case,
+                deadline,
+                day,
+            },
+        ),
         Page::Kinds => fine_reply(alloc, Form::Html, kinds_page(alloc, Said::Nothing)),
-        Page::Enter(kind, about, fresh) => {
+        Page::Enter(kind, about) => {
             fine_reply(alloc, Form::Html, form_text(alloc, kind, fresh, about))
         }
     }
+}
+
+/// Returns an export of the deadlines that fall due.
+pub(crate) fn export_reply<S: Alter>(
+    alloc: Global,
+    docket: &mut Docket<S>,
+    export: Export,
+    days: Option<(Day, Day)>,
+    fresh: u64,
+) -> Result<Reply, Fault>
+    ensures { (body : List ℕ) → RepliesTo S.Store docket.old docket.new (ExportWish export days fresh) body result }
+{
+    let dues = exported(export, days, fresh);
+    question_reply(alloc, docket, Form::Export(export), &dues)
 }

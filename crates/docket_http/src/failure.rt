@@ -67,12 +67,13 @@ fn is_of_pages(wish: &Wish) -> bool
     ensures { result ≡ is_of_pages wish.now }
 {
     match wish {
-        Wish::Refuse(_) | Wish::Form(..) | Wish::Preview(..) | Wish::Page(_) | Wish::Copy => true,
+        Wish::Refuse(_) | Wish::Form(..) | Wish::Preview(..) | Wish::Page(..) | Wish::Copy => true,
         Wish::Reject(_)
         | Wish::Command(_)
         | Wish::Case(_)
         | Wish::Deadlines(_)
         | Wish::Calendar(..)
+        | Wish::Export(..)
         | Wish::Holidays(_) => false,
     }
 }

@@ -1,10 +1,11 @@
 //! The heads of answers.
 ghost use Rattle.std.specs.Prelude.{◌≡◌, ℕ};
-ghost use Rattle.docket_http.specs.Answer.{head_bytes};
+ghost use Rattle.docket_http.specs.Answer.{export_line, head_bytes};
 ghost use Rattle.docket_http.specs.declared.head.Form.TheVariants.{OpenText};
 
 use crate::place::Place;
 use http::StatusCode;
+use http_request::Export;
 use std::fmt;
 
 /// The form of an answer: what its body is.
@@ -16,10 +17,23 @@ pub(crate) enum Form {
     OpenText,
     /// A page, which a browser shows.
     Html,
+    /// The deadlines that fall due, for another program.
+    Export(Export),
     /// A database of SQLite, which a browser saves.
     File,
     /// Empty: a browser gets that page next.
     Seen(Place),
+}
+
+/// The line of the field `content-type` of an export.
+fn export_line(export: Export) -> &'static str
+    ensures { result.now ≡ export_line export }
+{
+    match export {
+        Export::Calendar => "content-type: text/calendar; charset=utf-8\r\n",
+        Export::Csv => "content-type: text/csv; charset=utf-8\r\n",
+        Export::Json => "content-type: application/json\r\n",
+    }
 }
 
 /// Writes the line of the field `content-type`, or of `location`.
@@ -36,6 +50,7 @@ impl fmt::Display for Form {
                 "content-type: text/plain; charset=utf-8\r\n",
             ),
             Form::Html => f.write_str("content-type: text/html; charset=utf-8\r\n"),
+            Form::Export(export) => f.write_str(export_line(*export)),
             Form::File => f.write_str("content-type: application/vnd.sqlite3\r\n"),
             Form::Seen(place) => write!(f, "location: {place}\r\n"),
         }
@@ -44,7 +59,7 @@ impl fmt::Display for Form {
 
 /// The lines of the fields `content-security-policy` and `cache-control`, which a page has. A browser runs no
 /// script for it, loads nothing from elsewhere, shows it in no other page, and stores no copy of it. A file
-/// is saved, under the name in `content-disposition`. Nor is it stored where a form has led.
+/// is saved, under the name in `content-disposition`. Nor is an export stored, or where a form has led.
 #[derive(Clone, Copy)]
 struct PolicyLine(Form);
 
@@ -64,7 +79,7 @@ impl fmt::Display for PolicyLine {
                 "content-disposition: attachment; filename=\"docket.db\"\r\n\
                  cache-control: no-store\r\n",
             ),
-            Form::Seen(_) => f.write_str("cache-control: no-store\r\n"),
+            Form::Export(_) | Form::Seen(_) => f.write_str("cache-control: no-store\r\n"),
             Form::Json | Form::Text | Form::OpenText => Ok(()),
         }
     }
@@ -87,7 +102,7 @@ impl fmt::Display for LengthLine {
         let len = self.len;
         match self.form {
             Form::OpenText => Ok(()),
-            Form::Json | Form::Text | Form::Html | Form::File | Form::Seen(_) => {
+            Form::Json | Form::Text | Form::Html | Form::Export(_) | Form::File | Form::Seen(_) => {
                 write!(f, "content-length: {len}\r\n")
             }
         }

@@ -69,9 +69,9 @@ fn wants_copy<S: Alter>(docket: &Docket<S>, wish: &Wish) -> bool
 /// Serves one request of a connection: writes the answer to the request that it reads, and the docket then
 /// holds the history that this answer reports. A closed docket stays as it is, and the answer to a request
 /// that needs it reports that it is closed. Pages are shown if they are among the routes. `fresh` makes the key of
-/// a form among them, and gives the day of a list of deadlines: it counts nanoseconds since 1970, and the caller
-/// has another number for each connection. If the request asks for a copy of the file in which the docket is kept,
-/// it writes nothing and returns `CopyWanted`.
+/// a form among them, and gives the day of a page and the second of an export: it counts nanoseconds since 1970,
+/// and the caller has another number for each connection. If the request asks for a copy of the file in which the
+/// docket is kept, it writes nothing and returns `CopyWanted`.
 pub fn serve_one<R: Read, W: Write, S: Alter>(
     alloc: Global,
     reader: &mut R,

@@ -1,15 +1,13 @@
 -- The command lines of the kinds of commands, and the texts that are found for fields.
-use Rattle.std.proofs.Common.{◌≡◌, ℕ, ◌+◌, ◌<◌, ◌++◌, ◌∙◌, ◌||◌, Bool, List, [], ◌∷◌, Option, Some, None, Result, String, Global, add-one, append-nil, append_assoc, ap, drop, drop-cons, false, get_or, length, map, refl, string_bytes, subst, sym, true, if◌then◌else◌, ap₂, IfOk}
+use Rattle.std.proofs.Common.{◌≡◌, ℕ, ◌+◌, ◌<◌, ◌++◌, ◌∙◌, List, [], ◌∷◌, Option, Some, None, Result, String, Global, add-one, append-nil, append_assoc, ap, drop, drop-cons, get_or, length, map, refl, string_bytes, subst, sym, true, if◌then◌else◌, ap₂, IfOk}
 use Rattle.std.proofs.lemmas.List.{drop-map}
-use Rattle.clap.proofs.WalkLemmas.{first_value-rows}
 use Rattle.clap.specs.Faults.{fault_of, is_simple_and_free}
-use Rattle.clap.specs.Kinds.{FailsBy, HasKind, Kinds, or_else}
-use Rattle.clap.specs.Matches.{first_value, found_of}
-use Rattle.clap.specs.Simple.{App, HasMatchesOf, is_simple, matches_of, with_rule}
-use Rattle.clap.specs.Walk.{Row, Rule, Text, first_of, rows_of}
+use Rattle.clap.specs.Kinds.{FailsBy, Kinds, or_else}
+use Rattle.clap.specs.Matches.{found_of}
+use Rattle.clap.specs.Simple.{App, HasMatchesOf, is_simple, matches_of}
+use Rattle.clap.specs.Walk.{Row, Text, first_of, rows_of}
 use Rattle.clap.specs.declared.error.Error.{Error}
 use Rattle.clap.specs.declared.parser.matches.ArgMatches.{ArgMatches}
-use Rattle.clap.specs.declared.parser.matches.Found.{Found}
 use Rattle.docket_command.specs.declared.command_name.CommandName.{CommandName}
 use Rattle.docket_command.specs.declared.command_name.CommandName.TheVariants as name
 use Rattle.docket_command.specs.declared.field.Field.{Field}
@@ -18,8 +16,8 @@ use Rattle.docket_command.specs.Schema.{field_of, fields_of}
 use Rattle.command_forms.specs.declared.entered.Entered.{Entered}
 use Rattle.command_forms.specs.Entered.{spec_of}
 use Rattle.docket_jobs.specs.declared.job.Job.{Job}
-use Rattle.docket_jobs.specs.CommandLine.{docketctl}
-use Rattle.docket_jobs.specs.EntryLine.{bare_entry_line, entry_line, field_rule, with_rules}
+use Rattle.docket_jobs.specs.CommandLine.{docketctl, with_rules}
+use Rattle.docket_jobs.specs.EntryLine.{bare_entry_line, entry_line, field_rule}
 use Rattle.docket_jobs.specs.Jobs.{Asked, asked, asked_behind, asked_of, faults_behind, faults_of, is_entry, kind_entered, line_asked, or_bad_value, text_before, texts_found, word_at}
 
 -- ---- the line of a kind
@@ -33,19 +31,6 @@ entry_plain : (kind : CommandName) → is_simple (entry_line kind) ≡ true
 unfolding entry_line
 entry_plain name.DeclareDay = refl
 entry_plain _ = refl
-
-or_false : (b : Bool) → (b || false) ≡ b
-or_false true = refl
-or_false false = refl
-
-pub still_local : (old other new : Bool) → new ≡ (old || other) → other ≡ false → new ≡ old
-still_local old other new is none = is ∙ ap (λ b. old || b) none ∙ or_false old
-
--- one more rule, before those of the fields that are left
-pub rule_added : {A : Type 0} (g : A → Rule) (xs : List A) (i : ℕ) (d : A) (old new all : App) → i < length xs → with_rules old (map g (drop i xs)) ≡ all → new ≡ with_rule old (g (get_or xs i d)) → with_rules new (map g (drop (i + 1) xs)) ≡ all
-rule_added g xs i d old new all below so_far is =
-    let step : map g (drop i xs) ≡ g (get_or xs i d) ∷ map g (drop (i + 1) xs) = rw (add-one, drop-cons xs i d below) refl in
-    ap (λ line. with_rules line (map g (drop (i + 1) xs))) is ∙ (ap (with_rules old) (sym step) ∙ so_far)
 
 rules_of_specs : (fields : List Entered) → map (λ entered. field_rule (spec_of entered)) fields ≡ map field_rule (map spec_of fields)
 rules_of_specs [] = refl
@@ -62,15 +47,11 @@ text_added before f None after = ap (λ xs. xs ++ after) (append-nil before)
 text_added before f (Some text) after = append_assoc before _ after
 
 -- a field without a text adds none, and one with a text adds that
-pub text_absent : (texts : List (Field × Text)) (f : Field) (m : Found) (id : Text) → id ≡ field_name f → None ≡ first_value m id → texts ≡ texts ++ text_before f (first_of (field_name f) (rows_of m)) []
-text_absent texts f m id named none =
-    let absent : first_of (field_name f) (rows_of m) ≡ None = sym (first_value-rows m (field_name f)) ∙ (ap (first_value m) (sym named) ∙ sym none) in
-    sym (append-nil texts) ∙ ap (λ o. texts ++ text_before f o []) (sym absent)
+pub text_absent : (texts : List (Field × Text)) (f : Field) (rows : List Row) (id : Text) → id ≡ field_name f → None ≡ first_of id rows → texts ≡ texts ++ text_before f (first_of (field_name f) rows) []
+text_absent texts f rows id named none = sym (append-nil texts) ∙ ap (λ o. texts ++ text_before f o []) (none ∙ ap (λ i. first_of i rows) named)
 
-pub text_present : (texts new : List (Field × Text)) (f : Field) (m : Found) (id text : Text) → id ≡ field_name f → Some text ≡ first_value m id → new ≡ texts ++ (f, text) ∷ [] → new ≡ texts ++ text_before f (first_of (field_name f) (rows_of m)) []
-text_present texts new f m id text named some is =
-    let there : first_of (field_name f) (rows_of m) ≡ Some text = sym (first_value-rows m (field_name f)) ∙ (ap (first_value m) (sym named) ∙ sym some) in
-    is ∙ ap (λ o. texts ++ text_before f o []) (sym there)
+pub text_present : (texts new : List (Field × Text)) (f : Field) (rows : List Row) (id text : Text) → id ≡ field_name f → Some text ≡ first_of id rows → new ≡ texts ++ (f, text) ∷ [] → new ≡ texts ++ text_before f (first_of (field_name f) rows) []
+text_present texts new f rows id text named some is = is ∙ ap (λ o. texts ++ text_before f o []) (some ∙ ap (λ i. first_of i rows) named)
 
 -- one more text, before those of the fields that are left
 pub texts_added : (xs : List Entered) (i : ℕ) (d : Entered) (rows : List Row) (f : Field) (old new all : List (Field × Text)) → i < length xs → f ≡ field_of (spec_of (get_or xs i d))
@@ -89,14 +70,6 @@ entry_found line kind words m is matches = (matches (ap is_simple is ∙ entry_p
 
 pub free_entry : (line : App) (kind : CommandName) → line ≡ entry_line kind → is_simple_and_free line ≡ true
 free_entry line kind is = ap is_simple_and_free is ∙ entry_free kind
-
-pub entry_taken : (line : App) (kind : CommandName) (words : List Text) → line ≡ entry_line kind → fault_of line words ≡ [] → fault_of (entry_line kind) words ≡ []
-entry_taken line kind words is none = ap (λ l. fault_of l words) (sym is) ∙ none
-
-pub entry_refused : (line : App) (kind : CommandName) (words : List Text) (e : Error) → line ≡ entry_line kind → HasKind (fault_of line words) e → HasKind (fault_of (entry_line kind) words) e
-entry_refused line kind words e is has =
-    let P : App → Type 0 = λ l. HasKind (fault_of l words) e in
-    subst P is has
 
 or_nothing : (kinds : Kinds) → or_else kinds [] ≡ kinds
 or_nothing [] = refl

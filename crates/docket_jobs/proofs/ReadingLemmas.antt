@@ -8,24 +8,22 @@ use Rattle.clap.specs.Walk.{Text}
 use Rattle.clap.specs.declared.error.Error.{Error}
 use Rattle.clap.specs.declared.error.kind.ErrorKind.TheVariants.{ValueValidation}
 use Rattle.clap.specs.declared.parser.matches.ArgMatches.{ArgMatches}
-use Rattle.docket_jobs.specs.CommandLine.{docketctl, bare_line, count_line, create_line, run_line, enter_line, commands_line, import_line, case_line, cases_line, calendar_line, export_line, explain_line, check_line, backup_line, migrate_line, serve_line, rules_line, holidays_line}
+use Rattle.docket_jobs.specs.CommandLine.{bare_line, docketctl, line_of}
 use Rattle.docket_jobs.specs.Jobs.{Asked, asked_in, line_asked, or_bad_value}
 
 is_free : is_simple_and_free docketctl ≡ true
-unfolding docketctl bare_line count_line create_line run_line enter_line commands_line import_line case_line cases_line calendar_line export_line explain_line check_line backup_line migrate_line serve_line rules_line holidays_line
+unfolding docketctl bare_line line_of
 is_free = refl
 
 is_plain : is_simple docketctl ≡ true
-unfolding docketctl bare_line count_line create_line run_line enter_line commands_line import_line case_line cases_line calendar_line export_line explain_line check_line backup_line migrate_line serve_line rules_line holidays_line
+unfolding docketctl bare_line line_of
 is_plain = refl
 
 pub free_line : (line : App) → line ≡ docketctl → is_simple_and_free line ≡ true
 free_line line is = ap is_simple_and_free is ∙ is_free
 
-pub asked_found : (line : App) (words : List Text) (m : ArgMatches) (found : Option Asked) → line ≡ docketctl → HasMatchesOf line words m → asked_in (subcommand_rows_of m) ≡ found → line_asked words ≡ found
-asked_found line words m found is matches asked =
-    let rows : subcommand_rows_of m ≡ subcommand_of docketctl words = (matches (ap is_simple is ∙ is_plain)).1 ∙ ap (λ l. subcommand_of l words) is in
-    ap asked_in (sym rows) ∙ asked
+pub rows_found : (line : App) (words : List Text) (m : ArgMatches) → line ≡ docketctl → HasMatchesOf line words m → asked_in (subcommand_rows_of m) ≡ line_asked words
+rows_found line words m is matches = ap asked_in ((matches (ap is_simple is ∙ is_plain)).1 ∙ ap (λ l. subcommand_of l words) is)
 
 wanted : Option Asked → Kinds
 wanted (Some job) = []
@@ -45,20 +43,17 @@ unfolding wanted
 same_wanted (Some job) = refl
 same_wanted None = refl
 
-pub line_taken : (line : App) (words : List Text) (job : Asked) → line ≡ docketctl → fault_of line words ≡ [] → line_asked words ≡ Some job → or_bad_value (fault_of docketctl words) (line_asked words) ≡ []
-line_taken line words job is none found =
-    ap (or_else (fault_of docketctl words)) (same_wanted (line_asked words)) ∙ both_none _ _ job (ap (λ l. fault_of l words) (sym is) ∙ none) found
+pub line_taken : (words : List Text) (job : Asked) → fault_of docketctl words ≡ [] → line_asked words ≡ Some job → or_bad_value (fault_of docketctl words) (line_asked words) ≡ []
+line_taken words job none found = ap (or_else (fault_of docketctl words)) (same_wanted (line_asked words)) ∙ both_none _ _ job none found
 
-pub line_refused : (line : App) (words : List Text) (e : Error) → line ≡ docketctl → HasKind (fault_of line words) e → HasKind (or_bad_value (fault_of docketctl words) (line_asked words)) e
-line_refused line words e is has =
-    let P : App → Type 0 = λ l. HasKind (fault_of l words) e in
-    first_has _ _ e (subst P is has)
+pub line_refused : (words : List Text) (e : Error) → HasKind (fault_of docketctl words) e → HasKind (or_bad_value (fault_of docketctl words) (line_asked words)) e
+line_refused words e has = first_has _ _ e has
 
 second_has : (kinds : Kinds) (found : Option Asked) (e : Error) → kinds ≡ [] → found ≡ None → kind_of e ≡ ValueValidation → HasKind (or_else kinds (wanted found)) e
 unfolding wanted
 second_has kinds found e none missing kind = rw (none, missing) (inr (inl kind))
 
-pub value_refused : (line : App) (words : List Text) (e : Error) → line ≡ docketctl → fault_of line words ≡ [] → line_asked words ≡ None → kind_of e ≡ ValueValidation → HasKind (or_bad_value (fault_of docketctl words) (line_asked words)) e
-value_refused line words e is none missing kind =
+pub value_refused : (words : List Text) (e : Error) → fault_of docketctl words ≡ [] → line_asked words ≡ None → kind_of e ≡ ValueValidation → HasKind (or_bad_value (fault_of docketctl words) (line_asked words)) e
+value_refused words e none missing kind =
     let P : Kinds → Type 0 = λ more. HasKind (or_else (fault_of docketctl words) more) e in
-    subst P (sym (same_wanted (line_asked words))) (second_has _ _ e (ap (λ l. fault_of l words) (sym is) ∙ none) missing kind)
+    subst P (sym (same_wanted (line_asked words))) (second_has _ _ e none missing kind)

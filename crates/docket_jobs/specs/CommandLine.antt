@@ -1,11 +1,14 @@
 -- The command line of docketctl as clap reads it: each subcommand with its options, which take one value each, its flags, which
 -- take none, and its places.
-use Rattle.std.specs.Prelude.{◌≡◌, [], ◌∷◌, Some, true, false, codes}
+use Rattle.std.specs.Prelude.{◌≡◌, List, [], ◌∷◌, fold, map, Some, true, false, codes}
 use Rattle.clap.specs.Walk.{Rule, Text}
 use Rattle.clap.specs.Simple.{App, app_of, new_app, new_rule, on_top, with_rule, with_subcommand}
 use Rattle.clap.specs.declared.builder.action.ArgAction.TheVariants.{Set, SetTrue}
 use Rattle.clap.specs.declared.builder.command.Command.{Command}
 use Rattle.clap.specs.declared.builder.command.Command.TheViews.{out-Command as fields_of}
+use Rattle.docket_jobs.specs.Verbs.{verb_word, verbs}
+use Rattle.docket_jobs.specs.declared.verb.Verb.{Verb}
+use Rattle.docket_jobs.specs.declared.verb.Verb.TheVariants.{Count, Create, Run, Enter, Commands, Import, Case, Cases, Calendar, Export, Explain, Check, Backup, Migrate, Serve, Rules, Holidays}
 
 -- --NAME VALUE
 abbrev pub option_rule : Text → Rule
@@ -40,79 +43,49 @@ zone_rule = option_rule (codes "zone")
 abbrev pub close_rule : Rule
 close_rule = option_rule (codes "close")
 
-unfoldable pub count_line : App
-count_line = new_app (codes "count")
+abbrev pub optional_place : Text → Rule
+optional_place name = optional (place_rule name)
 
-unfoldable pub create_line : App
-create_line = with_rule (with_rule (with_rule (new_app (codes "create")) (required file_rule)) (required zone_rule)) (required close_rule)
+-- a command with these rules more
+abbrev pub with_rules : App → List Rule → App
+with_rules line rules = fold with_rule line rules
 
-unfoldable pub run_line : App
-run_line = with_rule (with_rule (with_rule (new_app (codes "run")) file_rule) (with_default (codes "UTC0") zone_rule)) (with_default (codes "17:00") close_rule)
+-- the rules of a subcommand; what follows a kind behind `enter` is read by the line of that kind (`entry_line`)
+abbrev pub rules_of : Verb → List Rule
+rules_of Count = []
+rules_of Create = required file_rule ∷ required zone_rule ∷ required close_rule ∷ []
+rules_of Run = file_rule ∷ with_default (codes "UTC0") zone_rule ∷ with_default (codes "17:00") close_rule ∷ []
+rules_of Enter = optional_place (codes "kind") ∷ []
+rules_of Commands = optional_place (codes "kind") ∷ []
+rules_of Import = required file_rule ∷ required (option_rule (codes "key")) ∷ []
+rules_of Case = required file_rule ∷ place_rule (codes "number") ∷ []
+rules_of Cases = required file_rule ∷ option_rule (codes "label") ∷ option_rule (codes "party") ∷ option_rule (codes "find") ∷ []
+rules_of Calendar =
+    required file_rule ∷ flag_rule (codes "today") ∷ flag_rule (codes "week") ∷ flag_rule (codes "overdue") ∷ flag_rule (codes "long") ∷ optional_place (codes "from") ∷ optional_place (codes "to") ∷ []
+rules_of Export =
+    required file_rule ∷ required (option_rule (codes "as")) ∷ option_rule (codes "case") ∷ optional_place (codes "from") ∷ optional_place (codes "to") ∷ []
+rules_of Explain = file_rule ∷ optional_place (codes "case") ∷ optional_place (codes "deadline") ∷ []
+rules_of Check = required file_rule ∷ []
+rules_of Backup = required file_rule ∷ required (option_rule (codes "to")) ∷ []
+rules_of Migrate = required file_rule ∷ []
+rules_of Serve =
+    required file_rule ∷ option_rule (codes "port") ∷ option_rule (codes "socket") ∷ option_rule (codes "count") ∷ flag_rule (codes "endless") ∷ flag_rule (codes "pages") ∷ flag_rule (codes "guard") ∷ option_rule (codes "origin") ∷ []
+rules_of Rules = file_rule ∷ []
+rules_of Holidays = file_rule ∷ place_rule (codes "year") ∷ optional_place (codes "to") ∷ []
 
--- `enter` as help lists it; what follows a kind is read by the line of that kind (`entry_line`)
-unfoldable pub enter_line : App
-enter_line = with_rule (new_app (codes "enter")) (optional (place_rule (codes "kind")))
+unfoldable pub line_of : Verb → App
+line_of verb = with_rules (new_app (verb_word verb)) (rules_of verb)
 
-unfoldable pub commands_line : App
-commands_line = with_rule (new_app (codes "commands")) (optional (place_rule (codes "kind")))
-
-unfoldable pub import_line : App
-import_line = with_rule (with_rule (new_app (codes "import")) (required file_rule)) (required (option_rule (codes "key")))
-
-unfoldable pub case_line : App
-case_line = with_rule (with_rule (new_app (codes "case")) (required file_rule)) (place_rule (codes "number"))
-
-unfoldable pub cases_line : App
-cases_line = with_rule (with_rule (with_rule (new_app (codes "cases")) (required file_rule)) (option_rule (codes "label"))) (option_rule (codes "party"))
-
-unfoldable pub calendar_line : App
-calendar_line =
-    with_rule (with_rule (with_rule (with_rule (with_rule (with_rule (new_app (codes "calendar")) (required file_rule)) (flag_rule (codes "today"))) (flag_rule (codes "week"))) (flag_rule (codes "overdue"))) (optional (place_rule (codes "from")))) (optional (place_rule (codes "to")))
-
-unfoldable pub export_line : App
-export_line =
-    with_rule (with_rule (with_rule (with_rule (with_rule (new_app (codes "export")) (required file_rule)) (required (option_rule (codes "as")))) (option_rule (codes "case"))) (optional (place_rule (codes "from")))) (optional (place_rule (codes "to")))
-
-unfoldable pub explain_line : App
-explain_line = with_rule (with_rule (with_rule (new_app (codes "explain")) file_rule) (optional (place_rule (codes "case")))) (optional (place_rule (codes "deadline")))
-
-unfoldable pub check_line : App
-check_line = with_rule (new_app (codes "check")) (required file_rule)
-
-unfoldable pub backup_line : App
-backup_line = with_rule (with_rule (new_app (codes "backup")) (required file_rule)) (required (option_rule (codes "to")))
-
-unfoldable pub migrate_line : App
-migrate_line = with_rule (new_app (codes "migrate")) (required file_rule)
-
-unfoldable pub serve_line : App
-serve_line =
-    with_rule (with_rule (with_rule (with_rule (with_rule (with_rule (with_rule (with_rule (new_app (codes "serve")) (required file_rule)) (option_rule (codes "port"))) (option_rule (codes "socket"))) (option_rule (codes "count"))) (flag_rule (codes "endless"))) (flag_rule (codes "pages"))) (flag_rule (codes "guard"))) (option_rule (codes "origin"))
-
-unfoldable pub rules_line : App
-rules_line = with_rule (new_app (codes "rules")) file_rule
-
-unfoldable pub holidays_line : App
-holidays_line = with_rule (with_rule (with_rule (new_app (codes "holidays")) file_rule) (place_rule (codes "year"))) (optional (place_rule (codes "to")))
+-- a command with that subcommand more
+abbrev pub with_line : App → App → App
+with_line app line = with_subcommand app line.top
 
 -- docketctl with `--version` and without a subcommand yet
 unfoldable pub bare_line : App
 bare_line = on_top (λ top. record top { has_version = true }) (new_app (codes "docketctl"))
 
--- with the subcommands that enter something, or take what is entered
-abbrev pub with_entering : App → App
-with_entering line = with_subcommand (with_subcommand (with_subcommand (with_subcommand (with_subcommand (with_subcommand line count_line.top) create_line.top) run_line.top) enter_line.top) commands_line.top) import_line.top
-
--- with those that show cases and deadlines
-abbrev pub with_telling : App → App
-with_telling line = with_subcommand (with_subcommand (with_subcommand (with_subcommand (with_subcommand line case_line.top) cases_line.top) calendar_line.top) export_line.top) explain_line.top
-
--- with those that keep a docket and serve it
-abbrev pub with_keeping : App → App
-with_keeping line = with_subcommand (with_subcommand (with_subcommand (with_subcommand line check_line.top) backup_line.top) migrate_line.top) serve_line.top
-
 unfoldable pub docketctl : App
-docketctl = with_subcommand (with_subcommand (with_keeping (with_telling (with_entering bare_line))) rules_line.top) holidays_line.top
+docketctl = fold with_line bare_line (map line_of verbs)
 
 -- the command has this line, and no option for its subcommands too
 abbrev pub HasLine : App → Command → Type 0

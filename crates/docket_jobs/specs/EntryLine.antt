@@ -1,14 +1,14 @@
 -- The command line of `docketctl enter KIND`: --db, --key, --show, and an option for each field of the one table.
 use Rattle.std.specs.Prelude.{List, [], ◌∷◌, map, codes}
 use Rattle.clap.specs.Walk.{Rule, Text}
-use Rattle.clap.specs.Simple.{App, new_app, with_rule}
+use Rattle.clap.specs.Simple.{App, new_app}
 use Rattle.docket_command.specs.declared.command_name.CommandName.{CommandName}
 use Rattle.docket_command.specs.Fields.{field_name}
 use Rattle.docket_command.specs.FieldTypes.{FieldType}
 use Rattle.docket_command.specs.FieldTypes as of
 use Rattle.docket_command.specs.Names.{command_word}
 use Rattle.docket_command.specs.Schema.{FieldSpec, must, may, fields_of}
-use Rattle.docket_jobs.specs.CommandLine.{file_rule, flag_rule, option_rule, required}
+use Rattle.docket_jobs.specs.CommandLine.{file_rule, flag_rule, option_rule, required, with_rules}
 
 -- a field of yes or no is a flag, which may be left out; any other that must be there is an option that has to be
 abbrev pub needed_rule : FieldType → Text → Rule
@@ -20,13 +20,13 @@ abbrev pub field_rule : FieldSpec → Rule
 field_rule (must f t) = needed_rule t (field_name f)
 field_rule (may f t) = option_rule (field_name f)
 
-abbrev pub with_rules : App → List Rule → App
-with_rules line [] = line
-with_rules line (rule ∷ rules) = with_rules (with_rule line rule) rules
+-- its options but for those of fields
+abbrev pub entry_rules : List Rule
+entry_rules = required file_rule ∷ option_rule (codes "key") ∷ flag_rule (codes "show") ∷ []
 
--- its options but for those of fields; it goes by the name of the kind
+-- it goes by the name of the kind
 abbrev pub bare_entry_line : CommandName → App
-bare_entry_line kind = with_rule (with_rule (with_rule (new_app (command_word kind)) (required file_rule)) (option_rule (codes "key"))) (flag_rule (codes "show"))
+bare_entry_line kind = with_rules (new_app (command_word kind)) entry_rules
 
 unfoldable pub entry_line : CommandName → App
 entry_line kind = with_rules (bare_entry_line kind) (map field_rule (fields_of kind))

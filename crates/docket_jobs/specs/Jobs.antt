@@ -27,12 +27,15 @@ use Rattle.docket_command.specs.Schema.{FieldSpec, field_of, fields_of}
 use Rattle.command_forms.specs.Given.{texts_given}
 use Rattle.due_exports.specs.declared.form.Form.{Form}
 use Rattle.due_exports.specs.declared.form.Form.TheVariants as form
+use Rattle.html_sheets.specs.declared.due.Due.{Due}
+use Rattle.html_sheets.specs.declared.due.Due.TheVariants.{Today, Week, Overdue}
 use Rattle.docket_jobs.specs.CommandLine.{docketctl}
 use Rattle.docket_jobs.specs.EntryLine.{entry_line}
-use Rattle.docket_jobs.specs.declared.due.Due.{Due}
-use Rattle.docket_jobs.specs.declared.due.Due.TheVariants.{Today, Week, Overdue}
+use Rattle.docket_jobs.specs.Verbs.{verb_named}
 use Rattle.docket_jobs.specs.declared.job.Job.{Job}
 use Rattle.docket_jobs.specs.declared.job.Job.TheVariants as job
+use Rattle.docket_jobs.specs.declared.verb.Verb.{Verb}
+use Rattle.docket_jobs.specs.declared.verb.Verb.TheVariants as verb
 
 -- where connections are taken, with the text of a path
 pub data Where : Type 0 where
@@ -54,8 +57,9 @@ pub data Asked : Type 0 where
   to_import : Text → Text → Asked
   to_tell_case : Text → ℕ → Asked
   to_tell_cases : Text → Option Text → Option Text → Asked
-  to_tell_calendar : Text → ℕ → ℕ → Asked
-  to_tell_due : Text → Due → Asked
+  to_find : Text → Text → Asked
+  to_tell_calendar : Text → ℕ → ℕ → Bool → Asked
+  to_tell_due : Text → Due → Bool → Asked
   to_export : Text → ℕ → ℕ → Form → Asked
   to_tell_sheet : Text → ℕ → Asked
   to_explain : Text → ℕ → ℕ → Asked
@@ -78,8 +82,9 @@ asked (job.Commands kind) = to_tell_commands kind
 asked (job.Import file key) = to_import file.now key.now
 asked (job.Case file number) = to_tell_case file.now number
 asked (job.Cases file label party) = to_tell_cases file.now (option_copied label) (option_copied party)
-asked (job.Calendar file from to) = to_tell_calendar file.now from to
-asked (job.CalendarOf file due) = to_tell_due file.now due
+asked (job.Find file words) = to_find file.now words.now
+asked (job.Calendar file from to long) = to_tell_calendar file.now from to long
+asked (job.CalendarOf file due long) = to_tell_due file.now due long
 asked (job.Export file from to form) = to_export file.now from to form
 asked (job.Sheet file number) = to_tell_sheet file.now number
 asked (job.Explain file case deadline) = to_explain file.now case deadline
@@ -160,15 +165,17 @@ commands_if (Some word) = option_map (λ kind. to_tell_commands (Some kind)) (co
 abbrev pub commands_asked : List Row → Option Asked
 commands_asked found = commands_if (first_of (codes "kind") found)
 
-abbrev pub import_asked : List Row → Asked
-import_asked found = to_import (value_of (codes "db") found) (value_of (codes "key") found)
-
 abbrev pub case_asked : List Row → Option Asked
 case_asked found = option_map (to_tell_case (value_of (codes "db") found)) (number_of (value_of (codes "number") found))
 
--- those of a label, where one is given, and with a party of a name that holds a text
-abbrev pub cases_asked : List Row → Asked
-cases_asked found = to_tell_cases (value_of (codes "db") found) (first_of (codes "label") found) (first_of (codes "party") found)
+-- those of a label, where one is given, and with a party of a name that holds a text; or, without these, those that words find
+abbrev pub cases_if : Text → Option Text → Option Text → Option Text → Option Asked
+cases_if file None label party = Some (to_tell_cases file label party)
+cases_if file (Some words) None None = Some (to_find file words)
+cases_if file (Some words) _ _ = None
+
+abbrev pub cases_asked : List Row → Option Asked
+cases_asked found = cases_if (value_of (codes "db") found) (first_of (codes "find") found) (first_of (codes "label") found) (first_of (codes "party") found)
 
 -- what is asked of the days from one to another, which is not before it
 abbrev pub days_if : (ℕ → ℕ → Asked) → Option ℕ → Option ℕ → Option Asked
@@ -186,15 +193,15 @@ due_of false true false = Some (Some Week)
 due_of false false true = Some (Some Overdue)
 due_of _ _ _ = None
 
--- two days go without a flag, and a flag without them
-abbrev pub calendar_if : Text → Option (Option Due) → Option Text → Option Text → Option Asked
-calendar_if file (Some None) (Some from) (Some to) = days_asked (to_tell_calendar file) from to
-calendar_if file (Some (Some due)) None None = Some (to_tell_due file due)
-calendar_if file _ _ _ = None
+-- two days go without a flag for others, and such a flag without them; in long lines where these are asked for
+abbrev pub calendar_if : Text → Bool → Option (Option Due) → Option Text → Option Text → Option Asked
+calendar_if file long (Some None) (Some from) (Some to) = days_asked (λ from to. to_tell_calendar file from to long) from to
+calendar_if file long (Some (Some due)) None None = Some (to_tell_due file due long)
+calendar_if file long _ _ _ = None
 
 abbrev pub calendar_asked : List Row → Option Asked
 calendar_asked found =
-    calendar_if (value_of (codes "db") found) (due_of (flag_of (codes "today") found) (flag_of (codes "week") found) (flag_of (codes "overdue") found))
+    calendar_if (value_of (codes "db") found) (flag_of (codes "long") found) (due_of (flag_of (codes "today") found) (flag_of (codes "week") found) (flag_of (codes "overdue") found))
     (first_of (codes "from") found) (first_of (codes "to") found)
 
 -- the format that a word names
@@ -236,15 +243,6 @@ explain_if _ _ _ = None
 abbrev pub explain_asked : List Row → Option Asked
 explain_asked found = explain_if (first_of (codes "db") found) (first_of (codes "case") found) (first_of (codes "deadline") found)
 
-abbrev pub check_asked : List Row → Asked
-check_asked found = to_check (value_of (codes "db") found)
-
-abbrev pub backup_asked : List Row → Asked
-backup_asked found = to_back_up (value_of (codes "db") found) (value_of (codes "to") found)
-
-abbrev pub migrate_asked : List Row → Asked
-migrate_asked found = to_migrate (value_of (codes "db") found)
-
 -- an origin begins with the scheme of HTTP
 abbrev pub is_origin : Text → Bool
 is_origin text = starts_with nat_eq text (codes "http://") || starts_with nat_eq text (codes "https://")
@@ -281,10 +279,6 @@ serve_asked found =
     (flag_of (codes "pages") found) (flag_of (codes "guard") found)
     (origin_if (flag_of (codes "pages") found || flag_of (codes "guard") found) (first_of (codes "origin") found))
 
--- the table of the rules, and those of the docket in a file where one is given
-abbrev pub rules_asked : List Row → Asked
-rules_asked found = to_tell_rules (first_of (codes "db") found)
-
 -- the statutory holidays of a year; with a file, its court calendar from a day to another
 abbrev pub holidays_if : Option Text → Text → Option Text → Option Asked
 holidays_if None year None = option_map to_tell_holidays (year_of year)
@@ -294,26 +288,29 @@ holidays_if _ _ _ = None
 abbrev pub holidays_asked : List Row → Option Asked
 holidays_asked found = holidays_if (first_of (codes "db") found) (value_of (codes "year") found) (first_of (codes "to") found)
 
--- what a subcommand asks for with what was found for it: `enter` nothing without a kind, and the last is `count`
+-- what a subcommand asks for with what was found for it; `enter` nothing without a kind
+abbrev pub asked_for : Verb → List Row → Option Asked
+asked_for verb.Count found = Some to_count
+asked_for verb.Create found = create_asked found
+asked_for verb.Run found = run_asked found
+asked_for verb.Enter found = None
+asked_for verb.Commands found = commands_asked found
+asked_for verb.Import found = Some (to_import (value_of (codes "db") found) (value_of (codes "key") found))
+asked_for verb.Case found = case_asked found
+asked_for verb.Cases found = cases_asked found
+asked_for verb.Calendar found = calendar_asked found
+asked_for verb.Export found = export_asked found
+asked_for verb.Explain found = explain_asked found
+asked_for verb.Check found = Some (to_check (value_of (codes "db") found))
+asked_for verb.Backup found = Some (to_back_up (value_of (codes "db") found) (value_of (codes "to") found))
+asked_for verb.Migrate found = Some (to_migrate (value_of (codes "db") found))
+asked_for verb.Serve found = serve_asked found
+asked_for verb.Rules found = Some (to_tell_rules (first_of (codes "db") found))
+asked_for verb.Holidays found = holidays_asked found
+
+-- what the word of a subcommand asks for
 abbrev pub asked_by : Text → List Row → Option Asked
-asked_by name found =
-    if bytes_eq name (codes "create") then create_asked found
-    else (if bytes_eq name (codes "run") then run_asked found
-    else (if bytes_eq name (codes "enter") then None
-    else (if bytes_eq name (codes "commands") then commands_asked found
-    else (if bytes_eq name (codes "import") then Some (import_asked found)
-    else (if bytes_eq name (codes "case") then case_asked found
-    else (if bytes_eq name (codes "cases") then Some (cases_asked found)
-    else (if bytes_eq name (codes "calendar") then calendar_asked found
-    else (if bytes_eq name (codes "export") then export_asked found
-    else (if bytes_eq name (codes "explain") then explain_asked found
-    else (if bytes_eq name (codes "check") then Some (check_asked found)
-    else (if bytes_eq name (codes "backup") then Some (backup_asked found)
-    else (if bytes_eq name (codes "migrate") then Some (migrate_asked found)
-    else (if bytes_eq name (codes "serve") then serve_asked found
-    else (if bytes_eq name (codes "rules") then Some (rules_asked found)
-    else (if bytes_eq name (codes "holidays") then holidays_asked found
-    else Some to_count)))))))))))))))
+asked_by name found = option_map_or (λ verb. asked_for verb found) (verb_named name) (Some to_count)
 
 -- with no subcommand docketctl counts
 abbrev pub asked_in : Option (Text × List Row) → Option Asked

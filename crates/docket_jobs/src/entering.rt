@@ -13,14 +13,15 @@ ghost use Rattle.command_forms.specs.Given.{texts_given};
 ghost use Rattle.docket_jobs.specs.EntryLine.{entry_line};
 ghost use Rattle.docket_jobs.specs.Jobs.{IsLimited, asked, asked_behind, commands_asked, entry_asked, faults_behind, is_table, kind_entered, or_bad_value, text_before, texts_found};
 
-use crate::command_line::command;
 use crate::entry_line::entry_command;
 use crate::job::Job;
-use crate::value::{BadValue, flag, told, value};
+use crate::value::{BadValue, flag, told, value, value_if_any};
 use clap::{ArgMatches, Error};
 use command_forms::{Entered, FieldText, entered_of};
 use docket_command::{CommandName, Field, from_word};
 use std::alloc::{AllocError, Global};
+
+const BAD_TABLE: &str = "import_calendar takes a table of days, which docketctl import enters";
 
 fn field_of(entered: Entered) -> Field
     ensures { result ≡ spec_field (spec_of entered) }
@@ -38,7 +39,7 @@ fn push_text<'a>(
 ) -> Result<(), AllocError>
     ensures { OnOk result (texts_given given.new.items ≡ texts_given given.old.items ++ text_before field (first_of (field_name field) (rows_of (found_of found.now))) []) }
 {
-    match found.get_str(field.name()) {
+    match value_if_any(found, field.name()) {
         Some(text) => {
             given.push(FieldText { field, text })?;
             Ok(())
@@ -62,7 +63,6 @@ fn texts<'a>(
     Ok(given)
 }
 
-#[tactic(auto, using(crate::proofs::MatchLemmas::first_value_is))]
 fn entry_job<'a>(
     alloc: Global,
     kind: CommandName,
@@ -74,7 +74,7 @@ fn entry_job<'a>(
     let given = texts(alloc, entered_of(kind), found)?;
     Ok(Job::Enter {
         file: value(found, "db"),
-        key: found.get_str("key"),
+        key: value_if_any(found, "key"),
         show: flag(found, "show"),
         kind,
         given,
@@ -94,19 +94,31 @@ fn read_kind<'a>(word: &'a str) -> Result<CommandName, BadValue<'a>>
 {
     let kind: CommandName = from_word(word).ok_or(BadValue::Kind(word))?;
     if is_table(kind) {
-        return Err(BadValue::Table);
+        return Err(BadValue::Told(BAD_TABLE));
     }
     Ok(kind)
 }
 
-/// What the words ask for, read by the line of a kind; the first of them is the kind's own word.
+/// What is found in the words by the line of a kind; the first of them is the kind's own word.
+fn entry_matches<'a>(
+    alloc: Global,
+    kind: CommandName,
+    words: &'a [String],
+) -> Result<ArgMatches<'a>, Error>
+    ensures found { IfOk result (λ matches. rows_of (found_of matches) ≡ matches_of (entry_line kind) (map string_bytes words.now)) }
+    ensures fault { FailsBy (fault_of (entry_line kind) (map string_bytes words.now)) result }
+{
+    let mut command = entry_command(alloc, kind)?;
+    command.try_get_matches_from_mut(words)
+}
+
+/// What the words ask for, read by the line of a kind.
 fn read_fields<'a>(alloc: Global, kind: CommandName, words: &'a [String]) -> Result<Job<'a>, Error>
     ensures limited { IfOk result IsLimited }
     ensures job { IfOk result (λ job. asked job ≡ entry_asked kind (matches_of (entry_line kind) (map string_bytes words.now))) }
     ensures fault { FailsBy (fault_of (entry_line kind) (map string_bytes words.now)) result }
 {
-    let mut command = entry_command(alloc, kind)?;
-    let matches = command.try_get_matches_from_mut(words)?;
+    let matches = entry_matches(alloc, kind, words)?;
     Ok(entry_job(alloc, kind, &matches)?)
 }
 
@@ -122,20 +134,17 @@ pub(crate) fn read_entry<'a>(
 {
     match read_kind(word) {
         Ok(kind) => read_fields(alloc, kind, words),
-        Err(bad) => {
-            let mut program = command(alloc)?;
-            Err(told(alloc, &mut program, &bad)?)
-        }
+        Err(bad) => Err(told(alloc, &bad)?),
     }
 }
 
 /// All kinds of commands, or the one that is given.
-#[tactic(auto, using(crate::proofs::MatchLemmas::first_value_is))]
 pub(crate) fn commands_job<'a>(found: &ArgMatches<'a>) -> Result<Job<'a>, BadValue<'a>>
-    ensures { MatchResult result (λ job. commands_asked (rows_of (found_of found.now)) ≡ Some (asked job))
+    ensures limited { IfOk result IsLimited }
+    ensures job { MatchResult result (λ job. commands_asked (rows_of (found_of found.now)) ≡ Some (asked job))
         (λ _. commands_asked (rows_of (found_of found.now)) ≡ None) }
 {
-    let Some(word) = found.get_str("kind") else {
+    let Some(word) = value_if_any(found, "kind") else {
         return Ok(Job::Commands { kind: None });
     };
     match from_word(word) {

@@ -1,16 +1,18 @@
 //! The command line of `docketctl enter` for each kind of command, as clap reads it.
-ghost use Rattle.std.specs.Prelude.{◌≡◌, IfOk, false, map};
-ghost use Rattle.clap.specs.Walk.{rule_of};
+ghost use Rattle.std.specs.Prelude.{◌≡◌, IfOk, map};
 ghost use Rattle.clap.specs.Simple.{App, new_app};
 ghost use Rattle.docket_command.specs.Names.{command_word};
 ghost use Rattle.command_forms.specs.Entered.{spec_of, type_of_input};
-ghost use Rattle.docket_jobs.specs.CommandLine.{HasLine};
-ghost use Rattle.docket_jobs.specs.EntryLine.{bare_entry_line, entry_line, field_rule, needed_rule, with_rules};
+ghost use Rattle.docket_jobs.specs.CommandLine.{HasLine, with_rules};
+ghost use Rattle.docket_jobs.specs.EntryLine.{bare_entry_line, entry_line, field_rule, needed_rule};
+ghost use Rattle.docket_jobs.specs.Arguments.{rule_read};
 
-use crate::command_line::{FILE_TEXT, flag, needed_option, option, subcommand};
+use crate::argument::{Argument, arg_of, with_arguments};
+use crate::command_line::subcommand;
 use crate::help::ENTRY_HELP;
+use crate::line::ENTRY;
 use crate::value_name::value_name;
-use clap::{Arg, Command};
+use clap::Command;
 use command_forms::{Entered, Input, entered_of};
 use docket_command::{CommandName, Word};
 use entry_pages::label_of;
@@ -18,37 +20,32 @@ use html_sheets::title_of;
 use std::alloc::{AllocError, Global};
 
 /// The option of a field that has to be there, or its flag.
-fn needed_arg<'a>(
-    alloc: Global,
-    name: &'a str,
-    value: &'a str,
+fn needed_argument(
+    name: &'static str,
+    value: &'static str,
     input: Input,
-    help: &'a str,
-) -> Arg<'a>
-    ensures rule { rule_of result ≡ needed_rule (type_of_input input) name.now }
-    ensures local { result.global ≡ false }
+    help: &'static str,
+) -> Argument
+    ensures { rule_read result ≡ needed_rule (type_of_input input) name.now }
 {
     match input {
-        Input::Flag => flag(alloc, name, help),
-        _ => needed_option(alloc, name, value, help),
+        Input::Flag => Argument::Flag(name, help),
+        _ => Argument::Must(name, value, help),
     }
 }
 
 /// The option of a field, with what its form calls it.
-fn field_arg<'a>(alloc: Global, kind: CommandName, entered: Entered) -> Arg<'a>
-    ensures rule { rule_of result ≡ field_rule (spec_of entered) }
-    ensures local { result.global ≡ false }
+fn field_argument(kind: CommandName, entered: Entered) -> Argument
+    ensures { rule_read result ≡ field_rule (spec_of entered) }
 {
     match entered {
         Entered::Must(field, input) => {
-            let name: &'a str = field.name();
-            let help: &'a str = label_of(kind, field);
-            needed_arg(alloc, name, value_name(field, input), input, help)
+            let help = label_of(kind, field);
+            needed_argument(field.name(), value_name(field, input), input, help)
         }
         Entered::May(field, input) => {
-            let name: &'a str = field.name();
-            let help: &'a str = label_of(kind, field);
-            option(alloc, name, value_name(field, input), help)
+            let help = label_of(kind, field);
+            Argument::May(field.name(), value_name(field, input), help)
         }
     }
 }
@@ -63,12 +60,12 @@ fn with_fields<'a>(
     ensures { (line : App) → HasLine line command.entry → IfOk result (HasLine (with_rules line (map (λ entered. field_rule (spec_of entered)) fields.now))) }
 {
     for field in fields {
-        command = command.arg(field_arg(alloc, kind, *field))?;
+        command = command.arg(arg_of(alloc, field_argument(kind, *field)))?;
     }
     Ok(command)
 }
 
-/// The command line of a kind without its fields.
+/// The command line of a kind without its options.
 fn named_entry<'a>(alloc: Global, kind: CommandName) -> Result<Command<'a>, AllocError>
     ensures { IfOk result (HasLine (new_app (command_word kind))) }
 {
@@ -78,22 +75,11 @@ fn named_entry<'a>(alloc: Global, kind: CommandName) -> Result<Command<'a>, Allo
     subcommand(alloc, word, title, ENTRY_HELP).bin_name(program.as_str())
 }
 
+/// The command line of a kind without its fields.
 fn bare_entry<'a>(alloc: Global, kind: CommandName) -> Result<Command<'a>, AllocError>
     ensures { IfOk result (HasLine (bare_entry_line kind)) }
 {
-    named_entry(alloc, kind)?
-        .arg(needed_option(alloc, "db", "FILE", FILE_TEXT))?
-        .arg(option(
-            alloc,
-            "key",
-            "KEY",
-            "The key of the command, of 1 to 64 bytes; else one is made of the day and the command",
-        ))?
-        .arg(flag(
-            alloc,
-            "show",
-            "Print what the command would do, and enter nothing",
-        ))
+    with_arguments(alloc, &ENTRY, named_entry(alloc, kind)?)
 }
 
 /// The command line of what follows `docketctl enter`, for a kind of command.

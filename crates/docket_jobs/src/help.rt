@@ -1,6 +1,60 @@
 //! What `--help` prints of each command.
 
-pub(crate) const COUNT_HELP: &str = "\
+use crate::verb::Verb;
+
+/// What a subcommand does.
+pub(crate) fn about_of(verb: Verb) -> &'static str {
+    match verb {
+        Verb::Count => {
+            "Enter days and count periods, one line of standard input after the other"
+        }
+        Verb::Create => "Make a docket without any record in a file",
+        Verb::Run => "Answer commands of a docket, one a line of standard input",
+        Verb::Enter => "Enter a command of a docket, by the options of its kind",
+        Verb::Commands => "Print the kinds of commands, or the fields of one",
+        Verb::Import => "Enter the days of a table in the calendar of a docket",
+        Verb::Case => "Print a case with its parties, entries and deadlines",
+        Verb::Cases => "Print the cases, a line each",
+        Verb::Calendar => {
+            "Print the deadlines that fall due from one day to another, or about today"
+        }
+        Verb::Export => { "Write what falls due, or a docket sheet, in a format of other programs" }
+        Verb::Explain => "Print the steps by which the end of a deadline was found",
+        Verb::Check => "Check whether the tables of a docket are sound",
+        Verb::Backup => "Copy a docket to another file",
+        Verb::Migrate => "Take a docket from version 1 of its tables to version 2",
+        Verb::Serve => "Answer requests of HTTP from this machine, one a connection",
+        Verb::Rules => "Print the rules by which deadlines run",
+        Verb::Holidays => {
+            "Print the statutory holidays of a year, or the court calendar of some days"
+        }
+    }
+}
+
+/// What stands behind the arguments of a subcommand.
+pub(crate) fn help_of(verb: Verb) -> &'static str {
+    match verb {
+        Verb::Count => COUNT_HELP,
+        Verb::Create => CREATE_HELP,
+        Verb::Run => RUN_HELP,
+        Verb::Enter => ENTER_HELP,
+        Verb::Commands => COMMANDS_HELP,
+        Verb::Import => IMPORT_HELP,
+        Verb::Case => CASE_HELP,
+        Verb::Cases => CASES_HELP,
+        Verb::Calendar => CALENDAR_HELP,
+        Verb::Export => EXPORT_HELP,
+        Verb::Explain => EXPLAIN_HELP,
+        Verb::Check => CHECK_HELP,
+        Verb::Backup => BACKUP_HELP,
+        Verb::Migrate => MIGRATE_HELP,
+        Verb::Serve => SERVE_HELP,
+        Verb::Rules => RULES_HELP,
+        Verb::Holidays => HOLIDAYS_HELP,
+    }
+}
+
+const COUNT_HELP: &str = "\
 Each line is answered by one line. Lines that enter something answer `ok`:
   federal DAY     a legal holiday declared by the President or Congress
   state DAY       a holiday declared by the state, for periods counted forward
@@ -36,9 +90,9 @@ With no command, docketctl counts. A docket in a file is made, kept and read lik
   docketctl enter vacate --db court.db --case 1 --deadline 1
   docketctl commands
   docketctl case --db court.db 1
-  docketctl cases --db court.db
+  docketctl cases --db court.db --find roe
   docketctl calendar --db court.db 2027-01-01 2027-12-31
-  docketctl calendar --db court.db --today
+  docketctl calendar --db court.db --week --long
   docketctl export --db court.db 2027-01-01 2027-12-31 --as ics
   docketctl holidays --db court.db 2027-01-01 2027-12-31
   docketctl explain --db court.db 1 1
@@ -50,17 +104,22 @@ One of an older program is taken further, once:
 It is served to programs of this machine by HTTP, and with --pages to a browser as well:
   docketctl serve --db court.db --port 8080 --count 1000 --pages";
 
-pub(crate) const CREATE_HELP: &str = "\
+const CREATE_HELP: &str = "\
 The file must not hold a docket yet; where there is none it is made. ZONE is as
-EST5EDT,M3.2.0,M11.1.0: hours west of Greenwich, and the dates on which clocks change. HH:MM is
-from 00:00 to 23:59:
+EST5EDT,M3.2.0,M11.1.0: hours west of Greenwich, and the dates on which clocks change:
+  Eastern  EST5EDT,M3.2.0,M11.1.0    Alaska                          AKST9AKDT,M3.2.0,M11.1.0
+  Central  CST6CDT,M3.2.0,M11.1.0    Hawaii                          HST10
+  Mountain MST7MDT,M3.2.0,M11.1.0    Puerto Rico, Virgin Islands     AST4
+  Arizona  MST7                      Guam, Northern Mariana Islands  ChST-10
+  Pacific  PST8PDT,M3.2.0,M11.1.0
+HH:MM is from 00:00 to 23:59. Neither can be changed later:
   docketctl create --db court.db --zone EST5EDT,M3.2.0,M11.1.0 --close 17:00
   created
 
 Exit status: 0 the docket was made, 2 bad command line, 3 it was not, which standard error
 says in one line.";
 
-pub(crate) const RUN_HELP: &str = "\
+const RUN_HELP: &str = "\
 Each line is a command, a JSON object with its name `do`, a key of the caller's own and its
 fields, and is answered by one line before the next command is applied:
   {\"caption\":\"Roe v. Doe\",\"do\":\"open_case\",\"filed\":\"2025-06-02\",\"key\":\"k1\",\"label\":\"1:25-cv-00001\"}
@@ -81,7 +140,7 @@ terminal, how many lines were answered.
 Exit status: 0 all commands were accepted, 1 a line was refused or no command, 2 bad command
 line, 3 reading, writing, memory or the database failed.";
 
-pub(crate) const ENTER_HELP: &str = "\
+const ENTER_HELP: &str = "\
 A command of a docket is entered without JSON, with an option for each of its fields. The kind comes
 first:
   docketctl enter serve_summons --db court.db --case 1 --party Doe --basis private --served 2025-06-13
@@ -105,7 +164,7 @@ as 2025-06-13, and MOMENT as 2025-11-01T17:00-05:00. `docketctl enter --help` sa
 Exit status: 0 the command was accepted or shown, 1 it was refused or no command, or a name fits none or
 several, 2 bad command line, 3 reading, writing, memory or the database failed.";
 
-pub(crate) const COMMANDS_HELP: &str = "\
+const COMMANDS_HELP: &str = "\
 Each kind of command has a line, with what it is called. With KIND each of its fields has one: its option
 for `docketctl enter`, what it is called, and the form of its value or the words that it takes. An example
 comes last, and the same command as a line of `docketctl run`:
@@ -113,7 +172,7 @@ comes last, and the same command as a line of `docketctl run`:
 
 Exit status: 0 they were printed, 2 bad command line, 3 writing or memory failed.";
 
-pub(crate) const IMPORT_HELP: &str = "\
+const IMPORT_HELP: &str = "\
 Standard input is a table of comma-separated values: first the line `kind,day,name`, then at most
 1,000 days, each of the kind federal, state or closed:
   kind,day,name
@@ -130,7 +189,7 @@ line:
 Exit status: 0 the days are entered, 1 the table is bad or the command was refused, 2 bad command
 line, 3 reading, writing, memory or the database failed.";
 
-pub(crate) const CASE_HELP: &str = "\
+const CASE_HELP: &str = "\
 A case is printed with its parties, its entries, and the state of each of its deadlines:
   docketctl case --db court.db 1
   case 1 1:25-cv-00001 filed 2025-06-02
@@ -143,17 +202,21 @@ NUMBER is from 1 to 4294967295, without a leading zero.
 Exit status: 0 the case was printed, 1 there is no such case, 2 bad command line, 3 reading, writing,
 memory or the database failed.";
 
-pub(crate) const CASES_HELP: &str = "\
+const CASES_HELP: &str = "\
 Each case has a line: its number, its label, the day on which it was filed, and its caption:
   docketctl cases --db court.db --party Roe
   case 1 1:25-cv-00001 filed 2025-06-02 Roe v. Doe
 Without --label and --party all cases are printed, by their numbers. TEXT is looked for as it is
 written, in large and small letters: `Roe` is in `John Roe`, and `roe` is not.
+With --find the case whose docket number is WORDS is printed; where there is none, each case whose caption
+or a party's name has WORDS, in large or small letters, the newest first:
+  docketctl cases --db court.db --find \"roe v\"
+  case 1 1:25-cv-00001 filed 2025-06-02 Roe v. Doe
 
 Exit status: 0 a case was printed, 1 there is none, 2 bad command line, 3 reading, writing, memory or
 the database failed.";
 
-pub(crate) const CALENDAR_HELP: &str = "\
+const CALENDAR_HELP: &str = "\
 Each deadline that runs and falls due from FROM to TO, both included, has a line: its day, its time
 of the day and the closing of the clerk's office, the case, the deadline's number there, its rule,
 and the party. A deadline of a day runs to its midnight for electronic filing, and to the closing
@@ -166,10 +229,15 @@ FROM and TO are days from 1980-01-01 to 3999-12-31, and TO is not before FROM.
 In their place --today, --week or --overdue is given: what falls due today, today and on the six days
 after, or before today and runs still. Today is the day of the clock in the court's zone:
   docketctl calendar --db court.db --week
+With --long a line has the weekday too, the docket number in place of the case's number, what the rule is
+called before its name, and at its end the party's name and the caption:
+  docketctl calendar --db court.db --week --long
+  2025-07-07 Mon 24:00 17:00  1:25-cv-00001  deadline 4: answer to the complaint, 12(a)(1)(A)(i)  Doe  Roe v. Doe
+  end 1
 
 Exit status: 0 the calendar was printed, 2 bad command line, 3 writing, memory or the database failed.";
 
-pub(crate) const EXPORT_HELP: &str = "\
+const EXPORT_HELP: &str = "\
 The deadlines of `docketctl calendar`, those that run and fall due from FROM to TO, both included, are
 written in the format that FORM names:
   ics   iCalendar (RFC 5545): an event a deadline, a last day as a date and a moment as UTC, with why
@@ -187,7 +255,7 @@ NUMBER is from 1 to 4294967295, without a leading zero.
 Exit status: 0 the deadlines or the sheet were written, 1 there is no such case, 2 bad command line,
 3 writing, memory or the database failed.";
 
-pub(crate) const EXPLAIN_HELP: &str = "\
+const EXPLAIN_HELP: &str = "\
 Each step by which the end of a deadline was found has a line, with the rule of the Federal Rules of
 Civil Procedure that it follows: what began the time, the day that it was counted to, each day passed
 over and every reason why, the end, and until when that day counts:
@@ -207,7 +275,7 @@ period, of days, months or hours or by a rule, is answered by its steps, and any
 Exit status: 0 the steps were printed, 1 there is no such case or deadline, or a line was answered with
 `bad` or `full`, 2 bad command line, 3 reading, writing, memory or the database failed.";
 
-pub(crate) const CHECK_HELP: &str = "\
+const CHECK_HELP: &str = "\
 A file that comes from a backup or from another program is read whole, table by table, and its rows
 stay as they are. Where all tables are sound, `sound` is printed, and how much each holds: the rows of
 the calendar in force, the local rules, the deadlines by their state, and a receipt for each
@@ -231,7 +299,7 @@ limits, or store an end of a deadline other than the rules give:
 Exit status: 0 the tables are sound, 2 bad command line, 3 they are not, or there is no docket, or
 writing, memory or the database failed.";
 
-pub(crate) const BACKUP_HELP: &str = "\
+const BACKUP_HELP: &str = "\
 The docket in FILE is copied whole to COPY, a file that must not be there yet:
   docketctl backup --db court.db --to copy.db
   copied
@@ -243,7 +311,7 @@ copy are sound.
 Exit status: 0 the docket was copied, 2 bad command line, 3 it was not, which standard error says in
 one line.";
 
-pub(crate) const MIGRATE_HELP: &str = "\
+const MIGRATE_HELP: &str = "\
 A docket that an older program made is in version 1 of the tables, which no other command takes. Back
 it up, then:
   docketctl migrate --db court.db
@@ -257,7 +325,7 @@ Exit status: 0 the docket is in version 2, 2 bad command line, 3 it is not: the 
 docket of version 1, or writing, memory or the database failed, which standard error says in one
 line.";
 
-pub(crate) const SERVE_HELP: &str = "\
+const SERVE_HELP: &str = "\
 The docket is served at 127.0.0.1 alone, or at a socket, one connection after the other and one
 request a connection:
   POST /commands              a command, as a line of `docketctl run`
@@ -271,6 +339,8 @@ With --pages people look things up and enter commands in a browser, at these pag
   GET /pages/search?find=WORDS  the cases found by a docket number, a caption or a name
   GET /pages/today            what falls due today, and at /pages/week and /pages/overdue
   GET /pages/calendar/FROM/TO what falls due on other days
+  GET /pages/due.ics          the same for a calendar program, and /pages/due.csv and .json for others:
+                              from 35 days ago to 400 days ahead, or with ?from=FROM&to=TO
   GET /pages/enter            the forms of all commands
   GET /pages/backup           the docket in one file, as `docketctl backup` copies it
 A reply to a command goes out when it stands in the file. The first line of the output is written
@@ -299,7 +369,7 @@ memory and judged, which takes as long as the opening.
 Exit status: 0 N connections were served, 2 bad command line, 3 the docket, the port or the
 socket could not be opened, or writing, memory or the database failed.";
 
-pub(crate) const RULES_HELP: &str = "\
+const RULES_HELP: &str = "\
 Each rule of the Federal Rules of Civil Procedure by which a deadline runs has a line, and behind
 them, with --db, each local rule of the docket in FILE, in the order in which they were entered:
   docketctl rules --db court.db
@@ -316,7 +386,7 @@ the end that are entered with it.
 Exit status: 0 the rules were printed, 2 bad command line, 3 writing, memory or the database failed, or
 there is no docket.";
 
-pub(crate) const HOLIDAYS_HELP: &str = "\
+const HOLIDAYS_HELP: &str = "\
 Each holiday has a line: its day, the weekday, and its name. One of a fixed date that falls on a
 Saturday is observed on the Friday before, and one that falls on a Sunday on the Monday after:
   docketctl holidays 2027

@@ -1,27 +1,39 @@
 //! What a command line asks for.
-ghost use Rattle.std.specs.Prelude.{◌≡◌, IfOk, MatchResult, None, Some, drop, map, option_copied, string_bytes};
+ghost use Rattle.std.specs.Prelude.{◌≡◌, IfOk, MatchResult, None, Some, drop, map, string_bytes};
 ghost use Rattle.clap.specs.Faults.{fault_of};
 ghost use Rattle.clap.specs.Kinds.{FailsBy};
 ghost use Rattle.clap.specs.Matches.{found_of};
 ghost use Rattle.clap.specs.Simple.{subcommand_rows_of};
 ghost use Rattle.clap.specs.Walk.{rows_of};
 ghost use Rattle.docket_jobs.specs.CommandLine.{docketctl};
-ghost use Rattle.docket_jobs.specs.Jobs.{IsLimited, asked, asked_by, asked_in, asked_of, backup_asked, is_origin, limit_of, origin_if, case_asked, cases_asked, check_asked, court_asked, create_asked, explain_asked, explain_numbers, import_asked, is_entry, line_asked, line_faults, or_bad_value, word_at, migrate_asked, number_of, place_if, rules_asked, run_asked, serve_asked, socket_if, where_asked};
+ghost use Rattle.docket_jobs.specs.Jobs.{IsLimited, asked, asked_by, asked_for, asked_in, asked_of, case_asked, cases_asked, court_asked, create_asked, explain_asked, explain_numbers, is_entry, line_asked, line_faults, number_of, or_bad_value, run_asked, word_at};
 
 use crate::command_line::command;
 use crate::day_jobs::{calendar_job, export_job, holidays_job};
-use crate::due::Due;
 use crate::entering::{commands_job, read_entry};
-use crate::number::{read_count, read_number, read_port};
-use crate::value::{BadValue, flag, told, value};
+use crate::number::read_number;
+use crate::serving::serve_job;
+use crate::value::{BAD_NUMBER, BadValue, told, value, value_if_any};
+use crate::verb::Verb;
 use civil_time::Day;
 use clap::{ArgMatches, Error};
 use command_forms::FieldText;
 use court_days::{Court, CourtFault};
-use docket_command::CommandName;
+use docket_command::{CommandName, from_word};
 use due_exports::Form;
+use html_sheets::Due;
 use patient_stream::Place;
 use std::alloc::{AllocError, Global};
+
+const NO_KIND: &str =
+    "enter takes a kind of command first, which docketctl commands lists, then --db FILE";
+
+const BAD_NUMBERS: &str =
+    "CASE and DEADLINE are numbers from 1 to 4294967295, without a leading zero";
+
+const BAD_FIND: &str = "--find goes without --label and --party";
+
+const BAD_PLACES: &str = "CASE and DEADLINE go with --db, and --db with both";
 
 /// What the program is to do.
 #[derive(Drop)]
@@ -72,18 +84,25 @@ pub enum Job<'a> {
         label: Option<&'a str>,
         party: Option<&'a str>,
     },
+    /// `cases --find`: print the cases of the docket in a file that some words find.
+    Find {
+        file: &'a str,
+        words: &'a str,
+    },
     /// `calendar`: print the deadlines that fall due from one day to another, which is not before it, of the
-    /// docket in a file.
+    /// docket in a file. With `long` a line has the names of the case and of the party.
     Calendar {
         file: &'a str,
         from: Day,
         to: Day,
+        long: bool,
     },
     /// `calendar` with `--today`, `--week` or `--overdue`: print the deadlines that fall due on those days, of
     /// the docket in a file.
     CalendarOf {
         file: &'a str,
         due: Due,
+        long: bool,
     },
     /// `export`: print the deadlines that fall due from one day to another, which is not before it, of the
     /// docket in a file, in a format.
@@ -184,7 +203,6 @@ fn create_job<'a>(
     }
 }
 
-#[tactic(auto, using(crate::proofs::MatchLemmas::first_value_is))]
 fn run_job<'a>(
     alloc: Global,
     found: &ArgMatches<'a>,
@@ -193,7 +211,7 @@ fn run_job<'a>(
     ensures job { IfOk result (λ read. MatchResult read (λ job. run_asked (rows_of (found_of found.now)) ≡ Some (asked job))
         (λ _. run_asked (rows_of (found_of found.now)) ≡ None)) }
 {
-    if let Some(file) = found.get_str("db") {
+    if let Some(file) = value_if_any(found, "db") {
         return Ok(Ok(Job::Run { file }));
     }
     match court(alloc, found)? {
@@ -202,43 +220,40 @@ fn run_job<'a>(
     }
 }
 
-fn import_job<'a>(found: &ArgMatches<'a>) -> Job<'a>
-    ensures { asked result ≡ import_asked (rows_of (found_of found.now)) }
-{
-    Job::Import {
-        file: value(found, "db"),
-        key: value(found, "key"),
-    }
-}
-
 fn case_job<'a>(found: &ArgMatches<'a>) -> Result<Job<'a>, BadValue<'a>>
-    ensures { MatchResult result (λ job. case_asked (rows_of (found_of found.now)) ≡ Some (asked job))
+    ensures limited { IfOk result IsLimited }
+    ensures job { MatchResult result (λ job. case_asked (rows_of (found_of found.now)) ≡ Some (asked job))
         (λ _. case_asked (rows_of (found_of found.now)) ≡ None) }
 {
-    let number = read_number(value(found, "number")).ok_or(BadValue::Number)?;
+    let number = read_number(value(found, "number")).ok_or(BadValue::Told(BAD_NUMBER))?;
     Ok(Job::Case {
         file: value(found, "db"),
         number,
     })
 }
 
-#[tactic(auto, using(crate::proofs::MatchLemmas::first_value_is))]
-fn cases_job<'a>(found: &ArgMatches<'a>) -> Job<'a>
-    ensures { asked result ≡ cases_asked (rows_of (found_of found.now)) }
+/// Words that find cases go without a label and a party.
+fn cases_job<'a>(found: &ArgMatches<'a>) -> Result<Job<'a>, BadValue<'a>>
+    ensures limited { IfOk result IsLimited }
+    ensures job { MatchResult result (λ job. cases_asked (rows_of (found_of found.now)) ≡ Some (asked job))
+        (λ _. cases_asked (rows_of (found_of found.now)) ≡ None) }
 {
-    Job::Cases {
-        file: value(found, "db"),
-        label: found.get_str("label"),
-        party: found.get_str("party"),
+    let file = value(found, "db");
+    let (label, party) = (value_if_any(found, "label"), value_if_any(found, "party"));
+    match (value_if_any(found, "find"), label, party) {
+        (None, _, _) => Ok(Job::Cases { file, label, party }),
+        (Some(words), None, None) => Ok(Job::Find { file, words }),
+        _ => Err(BadValue::Told(BAD_FIND)),
     }
 }
 
 fn stored_job<'a>(file: &'a str, case: &str, deadline: &str) -> Result<Job<'a>, BadValue<'a>>
-    ensures { MatchResult result (λ job. explain_numbers file.now (number_of case.now) (number_of deadline.now) ≡ Some (asked job))
+    ensures limited { IfOk result IsLimited }
+    ensures job { MatchResult result (λ job. explain_numbers file.now (number_of case.now) (number_of deadline.now) ≡ Some (asked job))
         (λ _. explain_numbers file.now (number_of case.now) (number_of deadline.now) ≡ None) }
 {
-    let case = read_number(case).ok_or(BadValue::Numbers)?;
-    let deadline = read_number(deadline).ok_or(BadValue::Numbers)?;
+    let case = read_number(case).ok_or(BadValue::Told(BAD_NUMBERS))?;
+    let deadline = read_number(deadline).ok_or(BadValue::Told(BAD_NUMBERS))?;
     Ok(Job::Explain {
         file,
         case,
@@ -247,137 +262,62 @@ fn stored_job<'a>(file: &'a str, case: &str, deadline: &str) -> Result<Job<'a>, 
 }
 
 /// Without a file there is no deadline to explain.
-#[tactic(auto, using(crate::proofs::MatchLemmas::first_value_is))]
 fn explain_job<'a>(found: &ArgMatches<'a>) -> Result<Job<'a>, BadValue<'a>>
-    ensures { MatchResult result (λ job. explain_asked (rows_of (found_of found.now)) ≡ Some (asked job))
+    ensures limited { IfOk result IsLimited }
+    ensures job { MatchResult result (λ job. explain_asked (rows_of (found_of found.now)) ≡ Some (asked job))
         (λ _. explain_asked (rows_of (found_of found.now)) ≡ None) }
 {
-    let places = (found.get_str("case"), found.get_str("deadline"));
-    match (found.get_str("db"), places.0, places.1) {
+    let places = (value_if_any(found, "case"), value_if_any(found, "deadline"));
+    match (value_if_any(found, "db"), places.0, places.1) {
         (Some(file), Some(case), Some(deadline)) => stored_job(file, case, deadline),
         (None, None, None) => Ok(Job::ExplainLines),
-        _ => Err(BadValue::Places),
-    }
-}
-
-fn check_job<'a>(found: &ArgMatches<'a>) -> Job<'a>
-    ensures { asked result ≡ check_asked (rows_of (found_of found.now)) }
-{
-    Job::Check {
-        file: value(found, "db"),
-    }
-}
-
-fn backup_job<'a>(found: &ArgMatches<'a>) -> Job<'a>
-    ensures { asked result ≡ backup_asked (rows_of (found_of found.now)) }
-{
-    let file = value(found, "db");
-    let to = value(found, "to");
-    Job::Backup { file, to }
-}
-
-fn migrate_job<'a>(found: &ArgMatches<'a>) -> Job<'a>
-    ensures { asked result ≡ migrate_asked (rows_of (found_of found.now)) }
-{
-    Job::Migrate {
-        file: value(found, "db"),
-    }
-}
-
-/// Whether a text begins as an origin does.
-fn is_origin(text: &str) -> bool
-    ensures { result ≡ is_origin text.now }
-{
-    text.as_bytes().starts_with(b"http://") || text.as_bytes().starts_with(b"https://")
-}
-
-/// The other origin at which a docket is served, which goes with the guard alone.
-fn read_origin<'a>(guarded: bool, origin: Option<&'a str>) -> Result<Option<&'a str>, BadValue<'a>>
-    ensures { MatchResult result (λ other. origin_if guarded (option_copied origin.entry) ≡ Some (option_copied other))
-        (λ _. origin_if guarded (option_copied origin.entry) ≡ None) }
-{
-    let Some(origin) = origin else {
-        return Ok(None);
-    };
-    if guarded && is_origin(origin) {
-        Ok(Some(origin))
-    } else {
-        Err(BadValue::Origin)
-    }
-}
-
-/// Returns how many connections to serve, or none where all that come are served.
-fn read_limit<'a>(count: Option<&'a str>, endless: bool) -> Result<Option<u32>, BadValue<'a>>
-    ensures { MatchResult result (λ limit. limit_of (option_copied count.entry) endless ≡ Some limit)
-        (λ _. limit_of (option_copied count.entry) endless ≡ None) }
-{
-    match (count, endless) {
-        (Some(text), false) => match read_count(text) {
-            Some(count) => Ok(Some(count)),
-            None => Err(BadValue::Count),
-        },
-        (None, true) => Ok(None),
-        _ => Err(BadValue::Limit),
-    }
-}
-
-/// The socket of a file, whose path has a byte or more.
-fn read_path<'a>(path: &'a str) -> Result<Place<'a>, BadValue<'a>>
-    ensures { MatchResult result (λ place. socket_if path.now ≡ Some (where_asked place)) (λ _. socket_if path.now ≡ None) }
-{
-    if path.is_empty() {
-        return Err(BadValue::Socket);
-    }
-    Ok(Place::Socket(path))
-}
-
-/// Where connections are taken, at a port or at the socket of a file.
-fn read_place<'a>(port: Option<&'a str>, socket: Option<&'a str>) -> Result<Place<'a>, BadValue<'a>>
-    ensures { MatchResult result (λ place. place_if (option_copied port.entry) (option_copied socket.entry) ≡ Some (where_asked place))
-        (λ _. place_if (option_copied port.entry) (option_copied socket.entry) ≡ None) }
-{
-    match (port, socket) {
-        (Some(text), None) => match read_port(text) {
-            Some(port) => Ok(Place::Port(port)),
-            None => Err(BadValue::Port),
-        },
-        (None, Some(path)) => read_path(path),
-        _ => Err(BadValue::Place),
-    }
-}
-
-#[tactic(auto, using(crate::proofs::MatchLemmas::first_value_is))]
-fn serve_job<'a>(found: &ArgMatches<'a>) -> Result<Job<'a>, BadValue<'a>>
-    ensures limited { IfOk result IsLimited }
-    ensures job { MatchResult result (λ job. serve_asked (rows_of (found_of found.now)) ≡ Some (asked job))
-        (λ _. serve_asked (rows_of (found_of found.now)) ≡ None) }
-{
-    let place = read_place(found.get_str("port"), found.get_str("socket"))?;
-    let count = read_limit(found.get_str("count"), flag(found, "endless"))?;
-    let pages = flag(found, "pages");
-    let guard = flag(found, "guard");
-    let origin = read_origin(pages || guard, found.get_str("origin"))?;
-    Ok(Job::Serve {
-        file: value(found, "db"),
-        place,
-        count,
-        pages,
-        guard,
-        origin,
-    })
-}
-
-#[tactic(auto, using(crate::proofs::MatchLemmas::first_value_is))]
-fn rules_job<'a>(found: &ArgMatches<'a>) -> Job<'a>
-    ensures { asked result ≡ rules_asked (rows_of (found_of found.now)) }
-{
-    Job::Rules {
-        file: found.get_str("db"),
+        _ => Err(BadValue::Told(BAD_PLACES)),
     }
 }
 
 /// The job of a subcommand, with what was found for it, unless memory runs out.
 fn job_by<'a>(
+    alloc: Global,
+    verb: Verb,
+    found: &ArgMatches<'a>,
+) -> Result<Result<Job<'a>, BadValue<'a>>, AllocError>
+    ensures limited { IfOk result (λ read. IfOk read IsLimited) }
+    ensures job { IfOk result (λ read. MatchResult read (λ job. asked_for verb (rows_of (found_of found.now)) ≡ Some (asked job))
+        (λ _. asked_for verb (rows_of (found_of found.now)) ≡ None)) }
+{
+    let file = value(found, "db");
+    match verb {
+        Verb::Count => Ok(Ok(Job::Count)),
+        Verb::Create => create_job(alloc, found),
+        Verb::Run => run_job(alloc, found),
+        Verb::Enter => Ok(Err(BadValue::Told(NO_KIND))),
+        Verb::Commands => Ok(commands_job(found)),
+        Verb::Import => {
+            let key = value(found, "key");
+            Ok(Ok(Job::Import { file, key }))
+        }
+        Verb::Case => Ok(case_job(found)),
+        Verb::Cases => Ok(cases_job(found)),
+        Verb::Calendar => Ok(calendar_job(found)),
+        Verb::Export => Ok(export_job(found)),
+        Verb::Explain => Ok(explain_job(found)),
+        Verb::Check => Ok(Ok(Job::Check { file })),
+        Verb::Backup => {
+            let to = value(found, "to");
+            Ok(Ok(Job::Backup { file, to }))
+        }
+        Verb::Migrate => Ok(Ok(Job::Migrate { file })),
+        Verb::Serve => Ok(serve_job(found)),
+        Verb::Rules => {
+            let file = value_if_any(found, "db");
+            Ok(Ok(Job::Rules { file }))
+        }
+        Verb::Holidays => Ok(holidays_job(found)),
+    }
+}
+
+/// The job of the subcommand that a word names.
+fn named_job<'a>(
     alloc: Global,
     name: &str,
     found: &ArgMatches<'a>,
@@ -386,24 +326,9 @@ fn job_by<'a>(
     ensures job { IfOk result (λ read. MatchResult read (λ job. asked_by name.now (rows_of (found_of found.now)) ≡ Some (asked job))
         (λ _. asked_by name.now (rows_of (found_of found.now)) ≡ None)) }
 {
-    match name {
-        "create" => create_job(alloc, found),
-        "run" => run_job(alloc, found),
-        "enter" => Ok(Err(BadValue::NoKind)),
-        "commands" => Ok(commands_job(found)),
-        "import" => Ok(Ok(import_job(found))),
-        "case" => Ok(case_job(found)),
-        "cases" => Ok(Ok(cases_job(found))),
-        "calendar" => Ok(calendar_job(found)),
-        "export" => Ok(export_job(found)),
-        "explain" => Ok(explain_job(found)),
-        "check" => Ok(Ok(check_job(found))),
-        "backup" => Ok(Ok(backup_job(found))),
-        "migrate" => Ok(Ok(migrate_job(found))),
-        "serve" => Ok(serve_job(found)),
-        "rules" => Ok(Ok(rules_job(found))),
-        "holidays" => Ok(holidays_job(found)),
-        _ => Ok(Ok(Job::Count)),
+    match from_word(name) {
+        Some(verb) => job_by(alloc, verb, found),
+        None => Ok(Ok(Job::Count)),
     }
 }
 
@@ -416,9 +341,18 @@ fn job_in<'a>(
         (λ _. asked_in (subcommand_rows_of matches.now) ≡ None)) }
 {
     match matches.subcommand() {
-        Some((name, found)) => job_by(alloc, name, found),
+        Some((name, found)) => named_job(alloc, name, found),
         None => Ok(Ok(Job::Count)),
     }
+}
+
+/// What is found in the words by the program's line.
+fn line_matches<'a>(alloc: Global, words: &'a [String]) -> Result<ArgMatches<'a>, Error>
+    ensures found { IfOk result (λ matches. asked_in (subcommand_rows_of matches) ≡ line_asked (map string_bytes words.now)) }
+    ensures fault { FailsBy (fault_of docketctl (map string_bytes words.now)) result }
+{
+    let mut command = command(alloc)?;
+    command.try_get_matches_from_mut(words)
 }
 
 /// What the words ask for, read by the program's line.
@@ -427,11 +361,10 @@ fn read_line<'a>(alloc: Global, words: &'a [String]) -> Result<Job<'a>, Error>
     ensures job { IfOk result (λ job. line_asked (map string_bytes words.now) ≡ Some (asked job)) }
     ensures fault { FailsBy (or_bad_value (fault_of docketctl (map string_bytes words.now)) (line_asked (map string_bytes words.now))) result }
 {
-    let mut command = command(alloc)?;
-    let matches = command.try_get_matches_from_mut(words)?;
+    let matches = line_matches(alloc, words)?;
     match job_in(alloc, &matches) {
         Ok(Ok(job)) => Ok(job),
-        Ok(Err(bad)) => Err(told(alloc, &mut command, &bad)?),
+        Ok(Err(bad)) => Err(told(alloc, &bad)?),
         Err(error) => Err(error.into()),
     }
 }

@@ -4,7 +4,7 @@ use command_forms::Input;
 use docket_command::Field;
 
 /// The form of a value, or the words that are taken, by how it is entered.
-fn form_of<'a>(input: Input) -> &'a str {
+fn form_of(input: Input) -> &'static str {
     match input {
         Input::Number => "NUMBER",
         Input::Day => "DAY",
@@ -27,7 +27,7 @@ fn form_of<'a>(input: Input) -> &'a str {
 }
 
 /// What stands for the value of a field: a case and a party are given by a number or by a name.
-pub(crate) fn value_name<'a>(field: Field, input: Input) -> &'a str {
+pub(crate) fn value_name(field: Field, input: Input) -> &'static str {
     match field {
         Field::Case => "CASE",
         Field::Party | Field::Opponent => "PARTY",

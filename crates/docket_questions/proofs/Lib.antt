@@ -1,4 +1,6 @@
 mod AskedLemmas
+mod CasedLemmas
+mod DueLemmas
 mod FilingLemmas
 mod ForeseenLemmas
 mod ListLemmas

@@ -1,4 +1,4 @@
--- The rows of deadlines, one after the other.
+-- Texts, one after the other.
 use Rattle.std.proofs.Common.{◌≡◌, ◌∙◌, ℕ, ◌+◌, ◌<◌, suc, List, [], ◌∷◌, ◌++◌, length, take, sym, ap, arith, append-nil, append_assoc}
 use Rattle.std.proofs.Math.Seq.{take-length, take-suc}
 use Rattle.std.proofs.lemmas.Grind.{flat_map-append}
@@ -23,13 +23,6 @@ module _ {X : Type 0} (f : X → List ℕ) (xs : List X) where
 
   pub whole_added : (before : List ℕ) (n : ℕ) → n ≡ length xs → before ++ flat_map f (take n xs) ≡ before ++ flat_map f xs
   whole_added before n all = ap (λ (k : ℕ). before ++ flat_map f (take k xs)) all ∙ all_added before
-
-  -- with what stands before and behind them
-  pub all_between : (found : List X) (head foot start rows end text : List ℕ) → start ≡ head → rows ≡ start ++ flat_map f xs → end ≡ foot → text ≡ rows ++ end → xs ≡ found
-      → text ≡ head ++ (flat_map f found ++ foot)
-  all_between found head foot start rows end text first then last all same =
-      all ∙ ap (λ t. t ++ end) (then ∙ ap (λ t. t ++ flat_map f xs) first ∙ ap (λ (ys : List X). head ++ flat_map f ys) same) ∙ ap (λ t. (head ++ flat_map f found) ++ t) last
-      ∙ append_assoc head (flat_map f found) foot
 
 -- one more text, by the court that the docket had before
 pub one_added : {X : Type 0} (f : CourtSettings → X → List ℕ) (now was : CourtSettings) (xs : List X) (n : ℕ) (x : X) → n < length xs → x ≡ get_or xs n x

@@ -1,20 +1,23 @@
 -- The newest cases, one after the other.
-use Rattle.std.proofs.Common.{◌≡◌, ◌∙◌, ℕ, ◌+◌, ◌-◌, ◌<◌, ◌≤◌, zero, suc, Bool, true, false, cond, List, [], ◌∷◌, ◌++◌, length, take, drop, filter, get_or, Option, Some, None, sym, ap, ap₂, arith, length-append, take-append-drop}
+use Rattle.std.proofs.Common.{◌≡◌, ◌∙◌, ℕ, ◌+◌, ◌-◌, ◌<◌, ◌≤◌, zero, suc, Bool, true, false, cond, List, [], ◌∷◌, ◌++◌, length, take, drop, filter, get_or, Option, Some, None, refl, sym, ap, ap₂, arith, length-append, take-append-drop}
 use Rattle.std.proofs.Math.Nat.{min-le_right}
 use Rattle.std.proofs.Math.Seq.{take-append_seam, take-suc}
 use Rattle.std.proofs.lemmas.Bool.Decides.{nat_tests}
 use Rattle.std.proofs.lemmas.List.{get_or-reverse, get_or-take, length-reverse, length-take, length-take-le, take-take, take_all}
 use Rattle.std.proofs.lemmas.List.Elements.{filter-append}
+use Rattle.std.proofs.lemmas.List.Filters.{length-filter_both}
 use Rattle.std.proofs.lemmas.Option.{get_or_from_slice_get, slice_get-get_or, slice_get_within}
-use Rattle.std.specs.Prelude.{min, nat_lt, reverse, slice_get}
+use Rattle.std.specs.List.{flat_map}
+use Rattle.std.specs.Prelude.{min, nat_lt, not, reverse, slice_get}
 use Rattle.court_days.specs.Court.{CourtSettings}
 use Rattle.docket_history.specs.Histories.{History, case_rows}
 use Rattle.docket_history.specs.Records.{case_at, case_labelled}
 use Rattle.docket_history.specs.declared.row.CaseRow.{CaseRow}
 use Rattle.docket_decisions.specs.Outcomes.{IsHistory}
 use Rattle.docket_decisions.proofs.LimitsKept.{within_limits}
+use Rattle.docket_text.specs.CaseLists.{case_list_line}
 use Rattle.html_sheets.specs.Sites.{cases_page, search_page}
-use Rattle.docket_questions.specs.Searches.{found_cases, found_else, is_wanted, newest_cases, page_of_search}
+use Rattle.docket_questions.specs.Searches.{found_cases, found_else, is_wanted, lines_found, newest_cases, page_of_search}
 use Rattle.docket_questions.specs.Texts.{last_before, newer, older, page_of_cases, page_up_to}
 
 -- the cases up to a number, from the last one on
@@ -108,37 +111,70 @@ up_to_last cases None = omega arith
 up_to_last cases (Some number) = min-le_right (number - 1) cases
 
 -- the page of a list
-pub paged : (court : CourtSettings) (h : History) → IsHistory court h → (before : Option ℕ) (count last : ℕ) (cases : List CaseRow) (new old : Option ℕ) (page : List ℕ)
+pub paged : (court : CourtSettings) (h : History) → IsHistory court h → (before : Option ℕ) (day count last : ℕ) (cases : List CaseRow) (new old : Option ℕ) (page : List ℕ)
     → count ≡ length (case_rows h) → last ≡ last_before count before → (last ≤ length (case_rows h) → cases ≡ take 100 (newest_cases h None last))
-    → (count ≤ 100_000 → new ≡ newer count last) → old ≡ older last → page ≡ cases_page cases new old → page ≡ page_of_cases h before
-paged court h is before count last cases new old page counted from shown above below told =
+    → (count ≤ 100_000 → new ≡ newer count last) → old ≡ older last → page ≡ cases_page cases new old day → page ≡ page_of_cases h before day
+paged court h is before day count last cases new old page counted from shown above below told =
     let few : count ≤ 100_000 = omega (arith, counted, (within_limits court h is).cases) in
     let less : last ≤ length (case_rows h) = omega (arith, counted, from, up_to_last count before) in
     let last_is : last ≡ last_before (length (case_rows h)) before = from ∙ ap (λ (n : ℕ). last_before n before) counted in
     told
-    ∙ ap (λ (rows : List CaseRow). cases_page rows new old) (shown less)
-    ∙ ap₂ (λ (a b : Option ℕ). cases_page (take 100 (newest_cases h None last)) a b) (above few ∙ ap (λ (n : ℕ). newer n last) counted) below
-    ∙ ap (page_up_to h) last_is
+    ∙ ap (λ (rows : List CaseRow). cases_page rows new old day) (shown less)
+    ∙ ap₂ (λ (a b : Option ℕ). cases_page (take 100 (newest_cases h None last)) a b day) (above few ∙ ap (λ (n : ℕ). newer n last) counted) below
+    ∙ ap (page_up_to h day) last_is
 
 -- a hundred of the first hundred and one
 more_than : (n m : ℕ) → m ≡ min 101 n → nat_lt 100 m ≡ nat_lt 100 n
 more_than n m is = grind (arith, nat_tests, is)
 
-pub page_of_first : (h : History) (words : List ℕ) (found : List CaseRow) (page : List ℕ) → found ≡ take 101 (found_cases h words)
-    → page ≡ search_page words (take 100 found) (nat_lt 100 (length found)) → Some page ≡ Some (page_of_search h words)
-page_of_first h words found page is told =
+pub page_of_first : (h : History) (words : List ℕ) (day : ℕ) (found : List CaseRow) (page : List ℕ) → found ≡ take 101 (found_cases h words)
+    → page ≡ search_page words (take 100 found) (nat_lt 100 (length found)) day → Some page ≡ Some (page_of_search h words day)
+page_of_first h words day found page is told =
     let all = found_cases h words in
     let fewer : 100 ≤ 101 = omega arith in
     ap Some (
     told
-    ∙ ap₂ (search_page words)
+    ∙ ap₂ (λ (cases : List CaseRow) (more : Bool). search_page words cases more day)
     (ap (λ (cases : List CaseRow). take 100 cases) is ∙ take-take 100 101 all fewer)
     (more_than (length all) (length found) (ap length is ∙ length-take 101 all)))
 
+-- a case has the label
+pub one_labelled : (h : History) (words : List ℕ) (most : ℕ) (case : CaseRow) (found : List CaseRow) → 1 ≤ most → found ≡ case ∷ [] → case_labelled (case_rows h) words ≡ Some case
+    → found ≡ take most (found_cases h words)
+one_labelled h words most case found some is label =
+    is
+    ∙ sym (take_all most (case ∷ []) some)
+    ∙ sym (ap (λ (o : Option CaseRow). take most (found_else h (newest_cases h (Some words) (length (case_rows h))) o)) label)
+
 -- no case has the label
-pub none_labelled : (h : History) (words : List ℕ) (count : ℕ) (found : List CaseRow) → count ≡ length (case_rows h) → case_labelled (case_rows h) words ≡ None
-    → (count ≤ length (case_rows h) → found ≡ take 101 (newest_cases h (Some words) count)) → found ≡ take 101 (found_cases h words)
-none_labelled h words count found counted none is =
+pub none_labelled : (h : History) (words : List ℕ) (most count : ℕ) (found : List CaseRow) → count ≡ length (case_rows h) → case_labelled (case_rows h) words ≡ None
+    → (count ≤ length (case_rows h) → found ≡ take most (newest_cases h (Some words) count)) → found ≡ take most (found_cases h words)
+none_labelled h words most count found counted none is =
     is (omega (arith, counted))
-    ∙ ap (λ (n : ℕ). take 101 (newest_cases h (Some words) n)) counted
-    ∙ sym (ap (λ (case : Option CaseRow). take 101 (found_else h (newest_cases h (Some words) (length (case_rows h))) case)) none)
+    ∙ ap (λ (n : ℕ). take most (newest_cases h (Some words) n)) counted
+    ∙ sym (ap (λ (case : Option CaseRow). take most (found_else h (newest_cases h (Some words) (length (case_rows h))) case)) none)
+
+-- no more are found than there are
+few_newest : (h : History) (words : List ℕ) → length (newest_cases h (Some words) (length (case_rows h))) ≤ length (case_rows h)
+few_newest h words =
+    let p = is_wanted h (Some words) in
+    let rows = backwards (case_rows h) (length (case_rows h)) in
+    omega (arith, length-filter_both p (λ case. not (p case)) (λ case. refl) rows, count_backwards (case_rows h) (length (case_rows h)) (omega arith))
+
+few_found : (court : CourtSettings) (h : History) → IsHistory court h → (words : List ℕ) (label : Option CaseRow)
+    → length (found_else h (newest_cases h (Some words) (length (case_rows h))) label) ≤ 100_000
+few_found court h is words None = omega (arith, few_newest h words, (within_limits court h is).cases)
+few_found court h is words (Some case) = omega arith
+
+-- so a hundred thousand of them are all
+pub all_found : (court : CourtSettings) (h : History) → IsHistory court h → (words : List ℕ) (found : List CaseRow) → found ≡ take 100_000 (found_cases h words) → found ≡ found_cases h words
+all_found court h is words found taken = taken ∙ take_all 100_000 (found_cases h words) (few_found court h is words (case_labelled (case_rows h) words))
+
+-- no lines, and some
+pub no_lines : (cases : List CaseRow) → length cases ≡ 0 → None ≡ lines_found cases
+no_lines [] none = refl
+no_lines (case ∷ cases) none = absurd (cc)
+
+pub some_lines : (cases : List CaseRow) → 1 ≤ length cases → Some (flat_map case_list_line cases) ≡ lines_found cases
+some_lines [] some = absurd (omega (arith, some))
+some_lines (case ∷ cases) some = refl

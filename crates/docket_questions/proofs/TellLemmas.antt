@@ -34,7 +34,10 @@ is_error (Err e) f told = ap Err told
 same_error : {X Y : Type 0} (f e : Fault) → ◌≡◌ {A = Result X Fault} (Err f) (Err e) → ◌≡◌ {A = Result Y Fault} (Err f) (Err e)
 same_error f e is = let same : f ≡ e = cc in ap Err same
 
--- out of memory is no failure of the database
+-- neither a damaged docket nor running out of memory is a failure of the database
+no_damage : {X : Type 0} → ◌≡◌ {A = Result X Fault} (Err Damaged) (Err StoreFailed) → ⊥
+no_damage is = let same : Damaged ≡ StoreFailed = cc in absurd (cc)
+
 pub short_fine : {X : Type 0} (r : Result X Fault) → IsErrAnd r (λ e. e ≡ NoMemory) → r ≡ Err StoreFailed → ⊥
 short_fine (Ok x) told is = absurd told
 short_fine (Err e) told is = let same : e ≡ StoreFailed = cc in let short : NoMemory ≡ StoreFailed = sym told ∙ same in absurd (cc)
@@ -90,6 +93,10 @@ module _ {S : Type 0} (g : Ghosts S) (old new : Docket S) where
   -- another answer
   pub same_told : {X Y : Type 0} (x : X) (y : Y) → OnlyAnswers g old new (Ok x) → OnlyAnswers g old new (Ok y)
   same_told x y only = other_told x (Ok y) (λ is. no_error y StoreFailed is) only
+
+  -- the docket proved damaged behind an answer
+  pub damaged_told : {X Y : Type 0} (x : X) → OnlyAnswers g old new (Ok x) → OnlyAnswers g {X = Y} old new (Err Damaged)
+  damaged_told {X} {Y} x only = other_told x (Err Damaged) (λ is. no_damage {X = Y} is) only
 
   -- memory ran out behind an answer
   pub short_told : {X Y : Type 0} (x : X) (r : Result Y Fault) → IsErrAnd r (λ e. e ≡ NoMemory) → OnlyAnswers g old new (Ok x) → OnlyAnswers g old new r

@@ -1,10 +1,11 @@
 -- The cases that are listed or found, the newest first.
 use Rattle.std.specs.Prelude.{ℕ, Bool, true, ◌||◌, List, [], ◌∷◌, length, map, take, filter, reverse, bytes_eq, nat_lt, Option, Some, None}
 use Rattle.std.specs.Char.{to_ascii_lowercase}
-use Rattle.std.specs.List.{list_any}
+use Rattle.std.specs.List.{flat_map, list_any}
 use Rattle.docket_history.specs.Histories.{History, case_rows, parties_of_case, party_rows}
 use Rattle.docket_history.specs.Records.{case_labelled}
 use Rattle.docket_history.specs.declared.row.CaseRow.{CaseRow}
+use Rattle.docket_text.specs.CaseLists.{case_list_line}
 use Rattle.html_sheets.specs.Sites.{search_page}
 
 -- the bytes begin with the part
@@ -23,6 +24,11 @@ folded text = map to_ascii_lowercase text
 -- the text contains the words, without regard to the case of ASCII letters
 abbrev pub has_words : List ℕ → List ℕ → Bool
 has_words text words = holds (folded words) (folded text)
+
+-- a line for each case, if there is one
+abbrev pub lines_found : List CaseRow → Option (List ℕ)
+lines_found [] = None
+lines_found (case ∷ cases) = Some (flat_map case_list_line (case ∷ cases))
 
 module _ (h : History) where
   -- the caption of the case, or the name of one of its parties, contains the words
@@ -47,6 +53,10 @@ module _ (h : History) where
   abbrev pub found_cases : List ℕ → List CaseRow
   found_cases words = found_else (newest_cases (Some words) (length (case_rows h))) (case_labelled (case_rows h) words)
 
-  -- the page of at most a hundred of them, which says whether there are more
-  abbrev pub page_of_search : List ℕ → List ℕ
-  page_of_search words = search_page words (take 100 (found_cases words)) (nat_lt 100 (length (found_cases words)))
+  -- the page on a day of at most a hundred of them, which says whether there are more
+  abbrev pub page_of_search : List ℕ → ℕ → List ℕ
+  page_of_search words day = search_page words (take 100 (found_cases words)) (nat_lt 100 (length (found_cases words))) day
+
+  -- the lines of all of them
+  abbrev pub text_of_found : List ℕ → Option (List ℕ)
+  text_of_found words = lines_found (found_cases words)

@@ -4,7 +4,7 @@ use crate::question::Question;
 use court_days::Day;
 use docket_store::{Docket, Fault};
 use docket_text::{court_calendar_text, rules_text};
-use html_sheets::{court_days_page, text_page};
+use html_sheets::{court_days_page, printed_page};
 use sqlite::Alter;
 use std::alloc::Global;
 
@@ -56,15 +56,17 @@ impl Question for CourtCalendarText {
     }
 }
 
-/// The rules by which the deadlines of a docket run, as a page.
+/// The rules by which the deadlines of a docket run, as a page on a day.
 #[derive(Clone, Copy)]
-pub struct RulesPage;
+pub struct RulesPage {
+    pub day: Day,
+}
 
 impl Question for RulesPage {
     ghost use Rattle.std.specs.Prelude.{Some};
     ghost use Rattle.docket_questions.specs.Texts.{page_of_rules};
 
-    ghost Text = { λ _ _ h. Some (page_of_rules h) };
+    ghost Text = { λ asked _ h. Some (page_of_rules h asked.day) };
 
     fn ask<S: Alter>(
         &self,
@@ -74,21 +76,23 @@ impl Question for RulesPage {
         let Some(text) = RulesText.ask(alloc, docket)? else {
             return Ok(None);
         };
-        let page = text_page(alloc, "Rules", &text)?;
+        let page = printed_page(alloc, "Rules", &text, self.day)?;
         Ok(Some(page))
     }
 }
 
-/// The rows that the court entered in its calendar, as a page.
+/// The rows that the court entered in its calendar, as a page on a day.
 #[derive(Clone, Copy)]
-pub struct CourtDaysPage;
+pub struct CourtDaysPage {
+    pub day: Day,
+}
 
 impl Question for CourtDaysPage {
     ghost use Rattle.std.specs.Prelude.{Some};
     ghost use Rattle.docket_history.specs.Histories.{standing_rows};
     ghost use Rattle.html_sheets.specs.Sites.{court_days_page};
 
-    ghost Text = { λ _ court h. Some (court_days_page court (standing_rows h)) };
+    ghost Text = { λ asked court h. Some (court_days_page court (standing_rows h) asked.day) };
 
     fn ask<S: Alter>(
         &self,
@@ -97,7 +101,7 @@ impl Question for CourtDaysPage {
     ) -> Result<Option<String>, Fault> {
         let rows = docket.calendar_rows()?;
         let court = docket.court();
-        let page = court_days_page(alloc, court, rows.as_slice())?;
+        let page = court_days_page(alloc, court, rows.as_slice(), self.day)?;
         Ok(Some(page))
     }
 }

@@ -5,11 +5,15 @@
 mod calendar;
 mod cases;
 mod court;
-mod days;
+mod due_entries;
+mod due_texts;
+mod dues;
 mod filing;
 mod foreseeing;
+mod found;
 mod kept;
 mod lists;
+mod long_lines;
 mod moving;
 mod newest;
 mod prospect;
@@ -23,8 +27,9 @@ mod words;
 
 pub use cases::{CaseText, DeadlinesText};
 pub use court::{CourtCalendarText, CourtDaysPage, RulesPage, RulesText};
-pub use days::DaysPage;
+pub use dues::{DueDays, DueForm, Dues};
 pub use foreseeing::foreseen;
+pub use found::FoundCases;
 pub use lists::CasesPage;
 pub use prospect::Foreseen;
 pub use question::Question;

@@ -4,6 +4,7 @@ ghost use Rattle.docket_questions.specs.Texts.{last_before, newer, older};
 
 use crate::newest::newest_cases;
 use crate::question::Question;
+use court_days::Day;
 use docket_store::{Docket, Fault};
 use html_sheets::cases_page;
 use sqlite::Alter;
@@ -45,18 +46,19 @@ fn older(last: u32) -> Option<u32>
     }
 }
 
-/// The list of at most a hundred cases, the newest first: those with numbers under `before`, or the last
-/// there are.
+/// The list on a day of at most a hundred cases, the newest first: those with numbers under `before`, or the
+/// last there are.
 #[derive(Clone, Copy)]
 pub struct CasesPage {
     pub before: Option<u32>,
+    pub day: Day,
 }
 
 impl Question for CasesPage {
     ghost use Rattle.std.specs.Prelude.{Some};
     ghost use Rattle.docket_questions.specs.Texts.{page_of_cases};
 
-    ghost Text = { λ asked _ h. Some (page_of_cases h asked.before) };
+    ghost Text = { λ asked _ h. Some (page_of_cases h asked.before asked.day) };
 
     fn ask<S: Alter>(
         &self,
@@ -66,7 +68,13 @@ impl Question for CasesPage {
         let count = docket.count_cases()?;
         let last = last_before(count, self.before);
         let cases = newest_cases(alloc, docket, None, last, CASES_A_PAGE as usize)?;
-        let page = cases_page(alloc, cases.as_slice(), newer(count, last), older(last))?;
+        let page = cases_page(
+            alloc,
+            cases.as_slice(),
+            newer(count, last),
+            older(last),
+            self.day,
+        )?;
         Ok(Some(page))
     }
 }

@@ -1,5 +1,5 @@
 //! A search for cases.
-ghost use Rattle.std.specs.Prelude.{◌≡◌, IfOk, false, length, nat_lt, string_bytes, take};
+ghost use Rattle.std.specs.Prelude.{◌≡◌, ◌≤◌, IfOk, length, nat_lt, string_bytes, take};
 ghost use Rattle.docket_history.specs.Histories.{History};
 ghost use Rattle.docket_applying.specs.Applying.{Asks, Stands};
 ghost use Rattle.docket_store.specs.Asking.{OnlyAnswers};
@@ -8,6 +8,7 @@ ghost use Rattle.html_sheets.specs.Sites.{search_page};
 
 use crate::newest::newest_cases;
 use crate::question::Question;
+use court_days::Day;
 use docket_history::CaseRow;
 use docket_store::{Docket, Fault};
 use html_sheets::search_page;
@@ -17,14 +18,15 @@ use std::alloc::{AllocError, Global};
 /// The most cases that a search shows.
 const CASES_FOUND: usize = 100;
 
-/// The cases that a search finds, up to one more than it shows.
-fn found_cases<S: Alter>(
+/// At most so many of the cases that a search finds, which is at least one.
+pub(crate) fn found_cases<S: Alter>(
     alloc: Global,
     docket: &mut Docket<S>,
     words: &str,
+    most: usize,
 ) -> Result<Vec<CaseRow>, Fault>
     ensures answer { (h : History) → Stands S.Store docket.old h
-        → Asks S.Store docket.new h (λ found. found.items ≡ take 101 (found_cases h words.now)) result }
+        → Asks S.Store docket.new h (λ found. 1 ≤ most → found.items ≡ take most (found_cases h words.now)) result }
     ensures only { OnlyAnswers S.Store docket.old docket.new result }
 {
     match docket.case_labelled(words)? {
@@ -34,17 +36,23 @@ fn found_cases<S: Alter>(
         }
         None => {
             let count = docket.count_cases()?;
-            newest_cases(alloc, docket, Some(words), count, CASES_FOUND + 1)
+            newest_cases(alloc, docket, Some(words), count, most)
         }
     }
 }
 
-/// The page of the cases that were found: at most a hundred, and whether there are more.
-fn page_of_found(alloc: Global, words: &str, found: &[CaseRow]) -> Result<String, AllocError>
-    ensures { IfOk result (λ page. string_bytes page ≡ search_page words.now (take 100 found.now) (nat_lt 100 (length found.now))) }
+/// The page on a day of the cases that were found: at most a hundred, and whether there are more.
+fn page_of_found(
+    alloc: Global,
+    words: &str,
+    found: &[CaseRow],
+    day: Day,
+) -> Result<String, AllocError>
+    ensures { IfOk result (λ page. string_bytes page ≡ search_page words.now (take 100 found.now) (nat_lt 100 (length found.now)) day) }
 {
     let shown = found.len().min(CASES_FOUND);
-    search_page(alloc, words, &found[..shown], found.len() > CASES_FOUND)
+    let more = found.len() > CASES_FOUND;
+    search_page(alloc, words, &found[..shown], more, day)
 }
 
 /// The cases that words find: the case whose label they are; without one those whose caption, or the name of
@@ -53,21 +61,22 @@ fn page_of_found(alloc: Global, words: &str, found: &[CaseRow]) -> Result<String
 #[derive(Clone, Copy)]
 pub struct SearchPage<'a> {
     pub words: &'a str,
+    pub day: Day,
 }
 
 impl Question for SearchPage<'_> {
     ghost use Rattle.std.specs.Prelude.{Some};
     ghost use Rattle.docket_questions.specs.Searches.{page_of_search};
 
-    ghost Text = { λ asked _ h. Some (page_of_search h asked.words.now) };
+    ghost Text = { λ asked _ h. Some (page_of_search h asked.words.now asked.day) };
 
     fn ask<S: Alter>(
         &self,
         alloc: Global,
         docket: &mut Docket<S>,
     ) -> Result<Option<String>, Fault> {
-        let found = found_cases(alloc, docket, self.words)?;
-        let page = page_of_found(alloc, self.words, found.as_slice())?;
+        let found = found_cases(alloc, docket, self.words, CASES_FOUND + 1)?;
+        let page = page_of_found(alloc, self.words, found.as_slice(), self.day)?;
         Ok(Some(page))
     }
 }

@@ -4,7 +4,7 @@ ghost use Rattle.docket_questions.specs.Texts.{sheet_page};
 
 use crate::question::Question;
 use crate::telling::{Telling, tell_case};
-use court_days::Court;
+use court_days::{Court, Day};
 use docket_history::{CaseRecord, DeadlineLine};
 use docket_store::{Docket, Fault};
 use html_sheets::{Links, case_sheet, page_foot, page_head};
@@ -47,22 +47,23 @@ impl Question for CaseSheet {
     }
 }
 
-/// The case of a number, as a page of the docket, which leads to the others.
+/// The case of a number, as a page of the docket on a day, which leads to the others.
 #[derive(Clone, Copy)]
 pub struct CasePage {
     pub number: u32,
+    pub day: Day,
 }
 
 impl Question for CasePage {
     ghost use Rattle.docket_questions.specs.Texts.{page_of_case};
 
-    ghost Text = { λ asked court h. page_of_case court h asked.number };
+    ghost Text = { λ asked court h. page_of_case court h asked.number asked.day };
 
     fn ask<S: Alter>(
         &self,
         alloc: Global,
         docket: &mut Docket<S>,
     ) -> Result<Option<String>, Fault> {
-        tell_case(alloc, docket, Telling::Page, self.number)
+        tell_case(alloc, docket, Telling::Page(self.day), self.number)
     }
 }

@@ -8,7 +8,7 @@ ghost use Rattle.docket_store.specs.Asking.{OnlyAnswers};
 ghost use Rattle.docket_questions.specs.Texts.{case_told, told_of_found};
 
 use crate::sheets::sheet_page;
-use court_days::Court;
+use court_days::{Court, Day};
 use docket_history::{CaseRecord, DeadlineLine};
 use docket_store::{Docket, Fault};
 use docket_text::case_text;
@@ -22,8 +22,8 @@ pub(crate) enum Telling {
     Text,
     /// As its docket sheet, a page that stands alone.
     Sheet,
-    /// As a page of the docket, which leads to the others.
-    Page,
+    /// As a page of the docket on a day, which leads to the others.
+    Page(Day),
 }
 
 /// Returns a case with its deadlines, in that form.
@@ -39,7 +39,7 @@ fn case_told(
     match telling {
         Telling::Text => case_text(alloc, court, case, lines),
         Telling::Sheet => sheet_page(alloc, court, case, lines),
-        Telling::Page => case_page(alloc, court, case, lines),
+        Telling::Page(day) => case_page(alloc, court, case, lines, day),
     }
 }
 

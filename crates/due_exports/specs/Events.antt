@@ -3,6 +3,7 @@ use Rattle.std.specs.Prelude.{ℕ, ℤ, List, ◌++◌, codes, decimal}
 use Rattle.std.specs.List.{flat_map}
 use Rattle.docket_history.specs.declared.record.DueRow.{DueRow}
 use Rattle.docket_history.specs.declared.row.CaseRow.{CaseRow}
+use Rattle.html_sheets.specs.RuleWords.{rule_text}
 use Rattle.icalendar.specs.ContentLines.{content_line}
 use Rattle.icalendar.specs.Events.{event_lines}
 
@@ -14,9 +15,9 @@ event_uid due case =
     ++ (codes "-" ++ (case.label
     ++ codes "@docketctl")))))
 
--- the rule, and the caption of the case
+-- the docket number and the caption of the case, and what is due, in words
 abbrev pub event_summary : DueRow → CaseRow → List ℕ
-event_summary due case = due.rule ++ (codes ": " ++ case.caption)
+event_summary due case = case.label ++ (codes " " ++ (case.caption ++ (codes ": " ++ rule_text due.rule)))
 
 -- the case and the deadline, and on the next lines why it is what it is
 abbrev pub event_description : DueRow → CaseRow → List ℕ → List ℕ

@@ -4,6 +4,7 @@ ghost use Rattle.due_exports.specs.Events.{event_uid, event_summary, event_descr
 
 use crate::export::Entry;
 use docket_history::{CaseRow, DueRow};
+use html_sheets::RuleText;
 use icalendar::{Event, event_text};
 use std::alloc::{AllocError, Global};
 
@@ -17,13 +18,14 @@ fn event_uid(alloc: Global, due: &DueRow, case: &CaseRow) -> Result<String, Allo
     format!(in alloc; "deadline-{number}-of-case-{case_number}-{label}@docketctl")
 }
 
-/// The rule and the caption.
+/// The docket number and the caption, and what is due, in words.
 fn event_summary(alloc: Global, due: &DueRow, case: &CaseRow) -> Result<String, AllocError>
     ensures { IfOk result (λ text. string_bytes text ≡ event_summary due.now case.now) }
 {
-    let rule = due.rule.as_str();
+    let label = case.label.as_str();
     let caption = case.caption.as_str();
-    format!(in alloc; "{rule}: {caption}")
+    let rule = RuleText(due.rule.as_str());
+    format!(in alloc; "{label} {caption}: {rule}")
 }
 
 /// The case and the deadline, and why it is what it is.

@@ -1,8 +1,7 @@
 //! The deadlines that fall due, in the formats of other programs: iCalendar (RFC 5545), a page of HTML, a
 //! table of comma-separated values (RFC 4180), and JSON (RFC 8259).
 //!
-//! An export is its head, then an entry a deadline, and its foot. A caller writes them one after another,
-//! so that a long list is never held as one.
+//! An export is its head, then an entry a deadline, and its foot. A caller joins them.
 #![tactic(auto)]
 
 mod end_texts;

@@ -1,17 +1,16 @@
 -- The line of a command that a person enters in words.
 use Rattle.std.specs.Prelude.{ℕ, ℤ, List, [], ◌∷◌, ◌++◌, take, codes, Option, Some, None, option_copied, unwrap_or, Result, Ok, Err}
 use Rattle.civil_time.specs.DayText.{day_text}
-use Rattle.civil_time.specs.LocalTime.{local_day}
 use Rattle.command_forms.specs.Forms.{line_of}
-use Rattle.court_days.specs.Court.{CourtSettings, zone_of}
+use Rattle.court_days.specs.Court.{CourtSettings}
 use Rattle.docket_command.specs.Fields.{field_name}
 use Rattle.docket_command.specs.Names.{command_word}
 use Rattle.docket_command.specs.declared.field.Field.{Field}
 use Rattle.docket_command.specs.declared.field.Field.TheVariants as field
 use Rattle.docket_history.specs.Histories.{History, parties_of_case, party_rows}
 use Rattle.docket_history.specs.declared.row.PartyRow.{PartyRow}
-use Rattle.docket_text.specs.Times.{shown}
 use Rattle.hex.specs.Hex.{encode_lower}
+use Rattle.html_sheets.specs.Due.{day_of_clock}
 use Rattle.sha2.specs.Sha256.{sha256}
 use Rattle.entry_lines.specs.Names.{case_meant, case_text, text_meant}
 use Rattle.entry_lines.specs.declared.entry.Entry.{Entry}
@@ -40,11 +39,7 @@ module _ (h : History) where
   abbrev pub fields_named : List (Field × List ℕ) → Result (List (List ℕ × List ℕ)) Unnamed
   fields_named given = pairs_by_case given (case_meant h (case_text given))
 
--- the day of the clock in the court's zone
-abbrev pub day_of_clock : CourtSettings → ℤ → ℕ
-day_of_clock court now = local_day (zone_of court) (shown now)
-
--- the day, and the first 16 hexadecimal digits of the SHA-256 of the line
+-- the day of the clock in the court's zone, and the first 16 hexadecimal digits of the SHA-256 of the line
 abbrev pub made_key : CourtSettings → ℤ → List ℕ → List ℕ
 made_key court now line = day_text (day_of_clock court now) ++ (codes "-" ++ encode_lower (take 8 (sha256 line)))
 

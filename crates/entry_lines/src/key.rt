@@ -2,19 +2,13 @@
 ghost use Rattle.std.specs.Prelude.{◌≡◌, take, IfOk, string_bytes};
 ghost use Rattle.hex.specs.Hex.{encode_lower};
 ghost use Rattle.sha2.specs.Sha256.{sha256};
-ghost use Rattle.entry_lines.specs.Lines.{day_of_clock, made_key};
+ghost use Rattle.entry_lines.specs.Lines.{made_key};
 
-use court_days::{Court, Day};
-use docket_text::{DayText, shown};
+use court_days::Court;
+use docket_text::DayText;
+use html_sheets::day_of_clock;
 use sha2::{Digest, Sha256};
 use std::alloc::{AllocError, Global};
-
-/// The day of the clock in the zone of the court.
-fn day_of_clock(court: &Court, now: i64) -> Day
-    ensures { result ≡ day_of_clock court.now now }
-{
-    court.local(shown(now)).0
-}
 
 /// The SHA-256 of the bytes.
 fn digest_of(bytes: &[u8]) -> [u8; 32]

@@ -8,7 +8,7 @@ use Rattle.docket_history.specs.declared.row.CaseRow.{CaseRow}
 use Rattle.docket_tables.specs.Layouts.{Rows}
 use Rattle.docket_tables.specs.Stands.{HoldsRows}
 use Rattle.docket_applying.specs.AnyRows.{PreservesCalendar}
-use Rattle.docket_applying.specs.Applying.{Asks, Stands}
+use Rattle.docket_applying.specs.Applying.{Asks}
 use Rattle.docket_applying.specs.Dockets.{Docket}
 use Rattle.docket_applying.specs.declared.fault.Fault.{Fault}
 use Rattle.docket_applying.specs.declared.fault.Fault.TheVariants.{Refused, NoMemory, StoreFailed, Closed, Damaged}
@@ -29,17 +29,7 @@ module _ {S : Type 0} (g : Ghosts S) (d : Docket S) (h : History) where
   pub unlisted : {X : Type 0} (P : X → Type 0) (rows : List CaseRow) (known : Option (List ℕ)) (fault : Fault) → Asks g d h P (Err fault) → Lists g d h rows known known (Err (Store fault))
   unlisted P rows known fault asks = (unanswered P fault asks, λ clean. front_out known known [] 0 (nothing_out known) rows (Store fault))
 
-  -- and so does a failed write
-  pub written : (result : Result ℕ CalendarEnd) → Stands g d h → IfErr result IsEarlyWrite → IsAsked g d h result
-  written (Ok lines) stands end = stands
-  written (Err (Store (Refused r))) stands end = absurd end
-  written (Err (Store NoMemory)) stands end = stands
-  written (Err (Store StoreFailed)) stands end = absurd end
-  written (Err (Store Closed)) stands end = absurd end
-  written (Err (Store Damaged)) stands end = absurd end
-  written (Err WriteFailed) stands end = stands
-
-  pub early : (result : Result ℕ CalendarEnd) → IsAsked g d h result → HasCleanDisk (state g d.conn) → IfErr result IsEarlyEnd
+  early : (result : Result ℕ CalendarEnd) → IsAsked g d h result → HasCleanDisk (state g d.conn) → IfErr result IsEarlyEnd
   early (Ok lines) asked clean = tt
   early (Err (Store (Refused r))) asked clean = asked
   early (Err (Store NoMemory)) asked clean = tt

@@ -5,17 +5,13 @@
 
 mod calendar;
 mod checking;
-mod due;
 mod entering;
-mod exporting;
 mod inquiry;
 mod listing;
 mod texts;
 
 pub use calendar::CalendarLines;
 pub use checking::{Judgment, Sound};
-pub use due::DueLines;
-pub use exporting::Export;
 pub use inquiry::{Inquiry, ask_on_file};
 pub use listing::Wanted;
 pub use texts::TextOf;

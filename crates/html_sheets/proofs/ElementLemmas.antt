@@ -2,7 +2,7 @@
 use Rattle.std.proofs.Common.{◌≡◌, ℕ, List, [], ◌∷◌, ◌++◌, length, append_assoc, refl, sym, ap, ap₂, ◌∙◌, arith}
 use Rattle.std.specs.Prelude.{codes}
 use Rattle.docket_history.specs.declared.row.CaseRow.{CaseRow}
-use Rattle.html_sheets.specs.Elements.{element, nav, weekday_told, cell, number_cell, head_cell, row}
+use Rattle.html_sheets.specs.Elements.{element, link, nav, weekday_told, cell, number_cell, head_cell, row}
 use Rattle.html_sheets.specs.Sheets.{said}
 use Rattle.html_sheets.specs.Sites.{more_nav, found_told}
 use Rattle.html_sheets.specs.Weeks.{end_cells}
@@ -113,6 +113,12 @@ pub weeks_parts : (before after : List ℕ)
     → codes "<nav aria-label=\"Other weeks\">" ++ (before ++ (codes " " ++ (after ++ codes "</nav>\n")))
     ≡ nav (codes "Other weeks") (before ++ (codes " " ++ after)) ++ codes "\n"
 weeks_parts before after = simp (append_assoc, element-then) refl
+
+-- the links to exports
+pub exports_parts : (csv json : List ℕ)
+    → codes "<nav aria-label=\"Exports\"><a href=\"/pages/due.ics\">Calendar to subscribe to</a> " ++ (csv ++ (codes " " ++ (json ++ codes "</nav>\n")))
+    ≡ nav (codes "Exports") (link (codes "/pages/due.ics") (codes "Calendar to subscribe to") ++ (codes " " ++ (csv ++ (codes " " ++ json)))) ++ codes "\n"
+exports_parts csv json = simp (append_assoc, element-then) refl
 
 -- the links of a list of cases: one of them, and both
 pub one_more_part : (link : List ℕ)

@@ -20,6 +20,7 @@ use Rattle.docket_history.specs.declared.row.CalendarRow.{CalendarRow}
 use Rattle.docket_history.specs.declared.row.CaseRow.{CaseRow}
 use Rattle.docket_history.specs.declared.row.EntryRow.{EntryRow}
 use Rattle.docket_history.specs.declared.row.PartyRow.{PartyRow}
+use Rattle.docket_text.specs.HolidayNames.{weekday_word}
 use Rattle.docket_text.specs.Parties.{party_text}
 use Rattle.html_sheets.specs.Elements.{element, told, day_told, weekday_told, link, nav, case_link, case_number, deadline_number, cell, number_cell, head_cell, row, table_foot}
 use Rattle.html_sheets.specs.Entering.{about_text, enter_link, enter_line, enter_nav, daily_kinds, deadline_kinds, calendar_kinds, serve_links}
@@ -28,11 +29,11 @@ use Rattle.html_sheets.specs.Marks.{is_mark, marks}
 use Rattle.html_sheets.specs.Pages.{page_head, page_foot, cases_head, case_row, cases_foot}
 use Rattle.html_sheets.specs.RuleWords.{rule_words, worded, rule_told}
 use Rattle.html_sheets.specs.Sheets.{said, case_head, entering, parties_head, party_row, party_named, party_told, name_of, party_at, parties_table, entries_head, entry_row, entries_table, deadlines_head, deadline_row, deadlines_table, case_sheet}
-use Rattle.html_sheets.specs.Sites.{site_nav, cases_link, more_nav, more_cases, cases_page, words_told, found_told, more_told, search_page, case_page, days_page_head, text_told, text_page, reasons_title, case_back, filed_told, reasons_page, calendar_told, calendar_row, calendar_head, court_days_page}
+use Rattle.html_sheets.specs.Sites.{site_nav, printed_on, site_foot, cases_link, more_nav, more_cases, cases_page, words_told, found_told, more_told, search_page, case_page, days_page_head, export_link, exports_nav, days_page_foot, text_told, text_page, printed_page, reasons_title, case_back, filed_told, reasons_page, calendar_told, calendar_row, calendar_head, court_days_page}
 use Rattle.html_sheets.specs.Styles.{style_text}
 use Rattle.html_sheets.specs.Titles.{title_of}
 use Rattle.html_sheets.specs.declared.due_list.DueList.{DueList}
-use Rattle.html_sheets.specs.Weeks.{list_title, week_before, week_after, days_link, due_columns, days_told, days_head, zone_told, has_weeks, weeks_nav, week_head, end_cells, end_of_row, due_cells, due_row, named_row}
+use Rattle.html_sheets.specs.Weeks.{list_title, week_before, week_after, days_link, due_columns, days_told, days_head, zone_told, has_weeks, weeks_nav, week_head, week_foot, end_cells, end_of_row, due_cells, due_row, named_row}
 use Rattle.html_sheets.specs.declared.about.About.{About}
 use Rattle.html_sheets.specs.declared.about.About.TheVariants.{Nothing, Case, Party, Deadline}
 use Rattle.html_sheets.specs.declared.filed.Filed.{Filed}
@@ -317,6 +318,17 @@ named_rows court place a b label word party who caption name = rows _ _ (
     both _ _ _ _ (dues Pages court place a b label word)
     (both _ _ _ _ (cells _ _ (parties_named a.party b.party party who)) (cells _ _ (tolds caption name))))
 
+-- two days of printing, and the feet of their pages
+printed : (a b : ℕ) → Same (printed_on a) (printed_on b)
+printed a b =
+    within (codes "p") (codes " class=\"printed\"") (codes " class=\"printed\"") _ _ same (
+    behind (codes "Printed on ") _ _ (
+    both (day_text a) (day_text b) _ _ (bare (day_bare a) (day_bare b))
+    (behind (codes " ") (weekday_word (weekday a)) (weekday_word (weekday b)) (bare (weekday_bare (weekday a)) (weekday_bare (weekday b))))))
+
+site_feet : (a b : ℕ) → Same (site_foot a) (site_foot b)
+site_feet a b = before (printed_on a) (printed_on b) (codes "\n" ++ page_foot) (printed a b)
+
 cases_links : (a b : ℕ) (words : List ℕ) → Same (cases_link a words) (cases_link b words)
 cases_links a b words = links _ _ words words (behind (codes "/pages/cases?before=") _ _ (bare (decimal_bare a) (decimal_bare b))) same
 
@@ -339,14 +351,14 @@ more_same (Some a) (Some b) none (Some d) e l = absurd (true≢false (sym l))
 more_same (Some a) (Some b) (Some c) none e l = absurd (true≢false l)
 
 pub cases_pages : (cases others : List CaseRow) (newer later older earlier : Option ℕ) → length cases ≡ length others
-    → is_some newer ≡ is_some later → is_some older ≡ is_some earlier
-    → Same (cases_page cases newer older) (cases_page others later earlier)
-cases_pages cases others newer later older earlier count e l =
+    → is_some newer ≡ is_some later → is_some older ≡ is_some earlier → (day night : ℕ)
+    → Same (cases_page cases newer older day) (cases_page others later earlier night)
+cases_pages cases others newer later older earlier count e l day night =
     behind (page_head (codes "Cases")) _ _
     (behind site_nav _ _
     (behind cases_head _ _
     (both _ _ _ _ (all_rows case_row case_row case_rows cases others count)
-    (behind cases_foot _ _ (before _ _ page_foot (more_same newer later older earlier e l))))))
+    (behind cases_foot _ _ (both (more_cases newer older) (more_cases later earlier) _ _ (more_same newer later older earlier e l) (site_feet day night))))))
 
 founds : (cases others : List CaseRow) → length cases ≡ length others → Same (found_told cases) (found_told others)
 founds [] [] count = same
@@ -359,22 +371,40 @@ words_same : (words text : List ℕ) → Same (words_told words) (words_told tex
 words_same words text = before _ _ (codes "\n") (within (codes "p") [] [] _ _ same (behind (codes "Cases found by ") _ _ (tolds words text)))
 
 pub search_pages : (words text : List ℕ) (cases others : List CaseRow) (more : Bool) → length cases ≡ length others
-    → Same (search_page words cases more) (search_page text others more)
-search_pages words text cases others more count =
+    → (day night : ℕ) → Same (search_page words cases more day) (search_page text others more night)
+search_pages words text cases others more count day night =
     behind (page_head (codes "Search")) _ _
     (behind site_nav _ _
-    (both _ _ _ _ (words_same words text) (before _ _ (more_told more ++ page_foot) (founds cases others count))))
+    (both _ _ _ _ (words_same words text) (both _ _ _ _ (founds cases others count) (behind (more_told more) _ _ (site_feet day night)))))
 
 pub case_pages : (court place : CourtSettings) (case other : CaseRecord) (deadlines lines : List DeadlineLine)
     → length case.parties ≡ length other.parties → length case.entries ≡ length other.entries → length deadlines ≡ length lines
-    → Same (case_page court case deadlines) (case_page place other lines)
-case_pages court place case other deadlines lines parties entries count =
+    → (day night : ℕ) → Same (case_page court case deadlines day) (case_page place other lines night)
+case_pages court place case other deadlines lines parties entries count day night =
     both _ _ _ _ (page_heads case.label other.label)
-    (behind site_nav _ _ (before _ _ page_foot (case_sheets Pages court place case other deadlines lines parties entries count)))
+    (behind site_nav _ _ (both _ _ _ _ (case_sheets Pages court place case other deadlines lines parties entries count) (site_feet day night)))
 
 pub days_pages : (list other : DueList) (court place : CourtSettings) (a b c d : ℕ) → has_weeks list ≡ has_weeks other
     → Same (days_page_head list court a b) (days_page_head other place c d)
 days_pages list other court place a b c d e = both _ _ _ _ (page_heads (list_title list) (list_title other)) (behind site_nav _ _ (week_heads list other court place a b c d e))
+
+export_links : (file : List ℕ) (a b c d : ℕ) (words : List ℕ) → Same (export_link file a b words) (export_link file c d words)
+export_links file a b c d words =
+    links _ _ words words
+    (behind (codes "/pages/") _ _ (behind file _ _ (behind (codes "?from=") _ _ (
+    both (day_text a) (day_text c) _ _ (bare (day_bare a) (day_bare c)) (behind (codes "&amp;to=") _ _ (bare (day_bare b) (day_bare d)))))))
+    same
+
+exports_navs : (a b c d : ℕ) → Same (exports_nav a b) (exports_nav c d)
+exports_navs a b c d =
+    before _ _ (codes "\n") (navs (codes "Exports") _ _ (
+    behind (link (codes "/pages/due.ics") (codes "Calendar to subscribe to")) _ _ (
+    behind (codes " ") _ _ (
+    both _ _ _ _ (export_links (codes "due.csv") a b c d (codes "CSV"))
+    (behind (codes " ") _ _ (export_links (codes "due.json") a b c d (codes "JSON")))))))
+
+pub days_feet : (a b c d day night : ℕ) → Same (days_page_foot a b day) (days_page_foot c d night)
+days_feet a b c d day night = behind week_foot _ _ (both (exports_nav a b) (exports_nav c d) _ _ (exports_navs a b c d) (site_feet day night))
 
 lines : (a b : List ℕ) → Same (text_told a) (text_told b)
 lines a b = before _ _ (codes "\n") (within (codes "pre") [] [] _ _ same (record { is = lined-marks a ∙ sym (lined-marks b) }))
@@ -382,18 +412,22 @@ lines a b = before _ _ (codes "\n") (within (codes "pre") [] [] _ _ same (record
 pub text_pages : (title other text words : List ℕ) → Same (text_page title text) (text_page other words)
 text_pages title other text words = both _ _ _ _ (page_heads title other) (behind site_nav _ _ (before _ _ page_foot (lines text words)))
 
+pub printed_pages : (title other text words : List ℕ) (day night : ℕ) → Same (printed_page title text day) (printed_page other words night)
+printed_pages title other text words day night =
+    both _ _ _ _ (page_heads title other) (behind site_nav _ _ (both (text_told text) (text_told words) _ _ (lines text words) (site_feet day night)))
+
 backs : (a b : ℕ) → Same (case_back a) (case_back b)
 backs a b = before _ _ (codes "\n") (within (codes "p") [] [] _ _ same (behind (codes "Case ") _ _ (case_links a b)))
 
-pub reasons_pages : (case other deadline last : ℕ) (text words : List ℕ) (filed : Filed)
-    → Same (reasons_page case deadline text filed) (reasons_page other last words filed)
-reasons_pages case other deadline last text words filed =
+pub reasons_pages : (case other deadline last : ℕ) (text words : List ℕ) (filed : Filed) (day night : ℕ)
+    → Same (reasons_page case deadline text filed day) (reasons_page other last words filed night)
+reasons_pages case other deadline last text words filed day night =
     both _ _ _ _ (page_heads (reasons_title case deadline) (reasons_title other last))
     (behind site_nav _ _
     (both _ _ _ _ (backs case other)
     (behind (filed_told filed) _ _
     (both _ _ _ _ (enter_navs _ _ deadline_kinds (deadlines_about case other deadline last))
-    (before _ _ page_foot (lines text words))))))
+    (both (text_told text) (text_told words) _ _ (lines text words) (site_feet day night))))))
 
 calendar_rows : (court place : CourtSettings) (a b : CalendarRow) → Same (calendar_row court a) (calendar_row place b)
 unfolding calendar_told
@@ -401,10 +435,11 @@ calendar_rows court place a b = rows _ _ (
     both _ _ _ _ (head_cells _ _ (bare (decimal_bare a.number) (decimal_bare b.number)))
     (both _ _ _ _ (number_cells _ _ (tolds _ _)) (cells _ _ (tolds a.name b.name))))
 
-pub court_days_pages : (court place : CourtSettings) (xs ys : List CalendarRow) → length xs ≡ length ys → Same (court_days_page court xs) (court_days_page place ys)
-court_days_pages court place xs ys count =
+pub court_days_pages : (court place : CourtSettings) (xs ys : List CalendarRow) → length xs ≡ length ys → (day night : ℕ)
+    → Same (court_days_page court xs day) (court_days_page place ys night)
+court_days_pages court place xs ys count day night =
     behind (page_head (codes "Court days")) _ _
     (behind site_nav _ _
     (behind (enter_nav Nothing calendar_kinds) _ _
     (behind calendar_head _ _
-    (before _ _ (table_foot ++ page_foot) (all_rows (calendar_row court) (calendar_row place) (calendar_rows court place) xs ys count)))))
+    (both _ _ _ _ (all_rows (calendar_row court) (calendar_row place) (calendar_rows court place) xs ys count) (behind table_foot _ _ (site_feet day night))))))

@@ -1,3 +1,4 @@
+pub mod Due
 pub mod Elements
 pub mod Entering
 pub mod Escapes

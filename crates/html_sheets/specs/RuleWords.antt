@@ -33,5 +33,10 @@ abbrev pub worded : Option Rule → List ℕ → List ℕ
 worded (Some rule) name = rule_words rule ++ (codes ", " ++ name)
 worded None name = name
 
+-- a rule by its name, as a text
+abbrev pub rule_text : List ℕ → List ℕ
+rule_text name = worded (rule_named name) name
+
+-- and within a page
 abbrev pub rule_told : List ℕ → List ℕ
 rule_told name = worded (rule_named name) (told name)

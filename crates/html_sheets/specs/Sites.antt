@@ -1,12 +1,15 @@
 -- The pages of a docket that is served: each leads to the others.
 use Rattle.std.specs.Prelude.{ℕ, Bool, true, false, List, [], ◌∷◌, ◌++◌, codes, decimal, Option, Some, None}
 use Rattle.std.specs.List.{flat_map}
+use Rattle.civil_time.specs.Civil.{weekday}
+use Rattle.civil_time.specs.DayText.{day_text}
 use Rattle.court_days.specs.Court.{CourtSettings}
 use Rattle.docket_history.specs.declared.record.CaseRecord.{CaseRecord}
 use Rattle.docket_history.specs.declared.record.DeadlineLine.{DeadlineLine}
 use Rattle.docket_history.specs.declared.row.CaseRow.{CaseRow}
 use Rattle.docket_history.specs.declared.row.CalendarRow.{CalendarRow}
 use Rattle.docket_text.specs.CourtCalendar.{item_text}
+use Rattle.docket_text.specs.HolidayNames.{weekday_word}
 use Rattle.html_sheets.specs.Elements.{element, told, lines_told, link, nav, case_link, cell, number_cell, head_cell, row, table_head, table_foot}
 use Rattle.html_sheets.specs.Entering.{enter_nav, deadline_kinds, calendar_kinds}
 use Rattle.html_sheets.specs.Pages.{page_head, page_foot, cases_head, case_row, cases_foot}
@@ -61,6 +64,14 @@ site_nav =
     ++ (search_form ++ (codes "\n" ++ week_form)))
     ++ codes "\n"
 
+-- the day of the request of a page that shows the docket, for those who print it
+abbrev pub printed_on : ℕ → List ℕ
+printed_on day = element (codes "p") (codes " class=\"printed\"") (codes "Printed on " ++ (day_text day ++ (codes " " ++ weekday_word (weekday day))))
+
+-- what ends such a page
+abbrev pub site_foot : ℕ → List ℕ
+site_foot day = printed_on day ++ (codes "\n" ++ page_foot)
+
 -- a link to the list of the cases before a number
 abbrev pub cases_link : ℕ → List ℕ → List ℕ
 cases_link before words = link (codes "/pages/cases?before=" ++ decimal before) words
@@ -77,15 +88,15 @@ more_cases (Some newer) (Some older) =
     more_nav (cases_link newer (codes "Newer cases") ++ (codes " " ++ cases_link older (codes "Older cases")))
 
 -- the page of a list of cases, a row each; `newer` and `older` are the numbers before which the cases are that are newer and older
-abbrev pub cases_page : List CaseRow → Option ℕ → Option ℕ → List ℕ
-cases_page cases newer older =
+abbrev pub cases_page : List CaseRow → Option ℕ → Option ℕ → ℕ → List ℕ
+cases_page cases newer older day =
     page_head (codes "Cases")
     ++ (site_nav
     ++ (cases_head
     ++ (flat_map case_row cases
     ++ (cases_foot
     ++ (more_cases newer older
-    ++ page_foot)))))
+    ++ site_foot day)))))
 
 -- the page of a search: its words, the cases found, and whether there are more
 abbrev pub words_told : List ℕ → List ℕ
@@ -99,32 +110,50 @@ abbrev pub more_told : Bool → List ℕ
 more_told true = element (codes "p") [] (codes "There are more. Longer words find fewer.") ++ codes "\n"
 more_told false = []
 
-abbrev pub search_page : List ℕ → List CaseRow → Bool → List ℕ
-search_page words cases more =
+abbrev pub search_page : List ℕ → List CaseRow → Bool → ℕ → List ℕ
+search_page words cases more day =
     page_head (codes "Search")
     ++ (site_nav
     ++ (words_told words
     ++ (found_told cases
     ++ (more_told more
-    ++ page_foot))))
+    ++ site_foot day))))
 
 -- the page of a case: its docket sheet under its label
-abbrev pub case_page : CourtSettings → CaseRecord → List DeadlineLine → List ℕ
-case_page court case deadlines = page_head case.label ++ (site_nav ++ (case_sheet Pages court case deadlines ++ page_foot))
+abbrev pub case_page : CourtSettings → CaseRecord → List DeadlineLine → ℕ → List ℕ
+case_page court case deadlines day = page_head case.label ++ (site_nav ++ (case_sheet Pages court case deadlines ++ site_foot day))
+
+-- links to what is due as files that other programs read: a calendar to which a program subscribes, whose days are those about the day of
+-- each request, and tables of the days from one to another
+abbrev pub export_link : List ℕ → ℕ → ℕ → List ℕ → List ℕ
+export_link file from to words =
+    link (codes "/pages/" ++ (file ++ (codes "?from=" ++ (day_text from ++ (codes "&amp;to=" ++ day_text to))))) words
+
+abbrev pub exports_nav : ℕ → ℕ → List ℕ
+exports_nav from to =
+    nav (codes "Exports") (
+    link (codes "/pages/due.ics") (codes "Calendar to subscribe to")
+    ++ (codes " "
+    ++ (export_link (codes "due.csv") from to (codes "CSV")
+    ++ (codes " " ++ export_link (codes "due.json") from to (codes "JSON")))))
+    ++ codes "\n"
 
 -- the page of what is due from a day to another, up to its rows, and behind them
 abbrev pub days_page_head : DueList → CourtSettings → ℕ → ℕ → List ℕ
 days_page_head list court from to = page_head (list_title list) ++ (site_nav ++ week_head list court from to)
 
-abbrev pub days_page_foot : List ℕ
-days_page_foot = week_foot ++ page_foot
+abbrev pub days_page_foot : ℕ → ℕ → ℕ → List ℕ
+days_page_foot from to day = week_foot ++ (exports_nav from to ++ site_foot day)
 
--- the page of a text of several lines
+-- the page of a text of several lines, and of one of the docket on a day
 abbrev pub text_told : List ℕ → List ℕ
 text_told text = lines_told text ++ codes "\n"
 
 abbrev pub text_page : List ℕ → List ℕ → List ℕ
 text_page title text = page_head title ++ (site_nav ++ (text_told text ++ page_foot))
+
+abbrev pub printed_page : List ℕ → List ℕ → ℕ → List ℕ
+printed_page title text day = page_head title ++ (site_nav ++ (text_told text ++ site_foot day))
 
 -- whether what a deadline asks for was done in time
 abbrev pub filed_told : Filed → List ℕ
@@ -141,15 +170,15 @@ reasons_title case deadline = codes "Why deadline " ++ (decimal deadline ++ (cod
 abbrev pub case_back : ℕ → List ℕ
 case_back case = element (codes "p") [] (codes "Case " ++ case_link case) ++ codes "\n"
 
-abbrev pub reasons_page : ℕ → ℕ → List ℕ → Filed → List ℕ
-reasons_page case deadline text filed =
+abbrev pub reasons_page : ℕ → ℕ → List ℕ → Filed → ℕ → List ℕ
+reasons_page case deadline text filed day =
     page_head (reasons_title case deadline)
     ++ (site_nav
     ++ (case_back case
     ++ (filed_told filed
     ++ (enter_nav (Deadline case deadline) deadline_kinds
     ++ (text_told text
-    ++ page_foot)))))
+    ++ site_foot day)))))
 
 -- a row of the court's calendar: its number, by which it is withdrawn, what it enters, and its name
 unfoldable pub calendar_told : CalendarRow → List ℕ → List ℕ
@@ -162,12 +191,12 @@ abbrev pub calendar_head : List ℕ
 calendar_head = table_head (codes "Row" ∷ codes "Entered" ∷ codes "Name" ∷ [])
 
 -- the page of the rows that the court entered, and links to the forms that change them
-abbrev pub court_days_page : CourtSettings → List CalendarRow → List ℕ
-court_days_page court rows =
+abbrev pub court_days_page : CourtSettings → List CalendarRow → ℕ → List ℕ
+court_days_page court rows day =
     page_head (codes "Court days")
     ++ (site_nav
     ++ (enter_nav Nothing calendar_kinds
     ++ (calendar_head
     ++ (flat_map (calendar_row court) rows
     ++ (table_foot
-    ++ page_foot)))))
+    ++ site_foot day)))))

@@ -1,6 +1,6 @@
 -- How a page looks: the style sheet of every page (CSS 2.2; Custom Properties 1; Media Queries 5), a rule a line. System fonts, two
 -- colours beside black and white, the dark ones where the system is dark; on a narrow screen the cells of a row stand one behind the
--- other, in as many lines as they take; in print neither links nor forms are shown, no row is broken, and heads are on each page.
+-- other, in as many lines as they take; in print neither links nor forms are shown but the day is, no row is broken, and heads are on each page.
 use Rattle.std.specs.Prelude.{ℕ, List, [], ◌∷◌, ◌++◌, codes}
 use Rattle.std.specs.List.{flat_map}
 
@@ -11,7 +11,7 @@ colour_rules =
     ∷ codes "@media (prefers-color-scheme: dark) { :root { --ink: #e6edf3; --soft: #9198a1; --line: #3d444d; --paper: #0d1117; --wash: #151b23; --link: #79b8ff; --late: #ff8f9a } }"
     ∷ []
 
--- the page, its headings, and the links that belong together; those to the pages of the docket stand on top
+-- the page, its headings, and the links that belong together; those to the pages of the docket stand on top. The day of printing is for print
 abbrev pub page_rules : List (List ℕ)
 page_rules =
     codes "* { box-sizing: border-box }"
@@ -28,6 +28,7 @@ page_rules =
     ∷ codes "nav form { font-size: .875rem }"
     ∷ codes "nav form + form { margin-left: auto }"
     ∷ codes "nav input, nav button { padding: .2rem .5rem }"
+    ∷ codes ".printed { display: none }"
     ∷ codes ".act a { font-size: .875rem; margin-left: .5rem; white-space: nowrap }"
     ∷ []
 
@@ -69,7 +70,7 @@ media_rules =
     codes "@media screen and (max-width: 52rem) { table, thead, tbody { display: block } tr { display: flex; flex-wrap: wrap; gap: 0 .75rem; padding: .4rem 0; border-bottom: 1px solid var(--line) } th, td { border: 0; padding: 0 } }"
     ∷ codes "@media screen and (max-width: 52rem) { td:nth-child(4):nth-last-child(6)::before { content: 'case ' } td:nth-child(6):nth-last-child(4)::before { content: 'deadline ' } td:nth-child(8):nth-last-child(2)::before { content: 'party ' } }"
     ∷ codes "@media screen and (max-width: 52rem) { pre { white-space: pre-wrap } .number bdi { white-space: normal } nav form + form { margin-left: 0 } }"
-    ∷ codes "@media print { nav, form, .act { display: none } main { display: block } body { max-width: none; padding: 0; font-size: 10pt } a { color: inherit; text-decoration: none } thead { display: table-header-group } tr { break-inside: avoid } }"
+    ∷ codes "@media print { nav, form, .act { display: none } main, .printed { display: block } body { max-width: none; padding: 0; font-size: 10pt } a { color: inherit; text-decoration: none } thead { display: table-header-group } tr { break-inside: avoid } }"
     ∷ []
 
 abbrev pub style_text : List ℕ

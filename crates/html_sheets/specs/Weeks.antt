@@ -12,17 +12,18 @@ use Rattle.docket_text.specs.Times.{shown, shown_minute}
 use Rattle.html_sheets.specs.Elements.{element, told, weekday_told, link, nav, case_number, deadline_number, cell, number_cell, head_cell, row, table_head, table_foot}
 use Rattle.html_sheets.specs.RuleWords.{rule_told}
 use Rattle.html_sheets.specs.Sheets.{party_named}
+use Rattle.html_sheets.specs.declared.due.Due.TheVariants.{Today, Week, Overdue}
 use Rattle.html_sheets.specs.declared.due_list.DueList.{DueList}
-use Rattle.html_sheets.specs.declared.due_list.DueList.TheVariants as list
+use Rattle.html_sheets.specs.declared.due_list.DueList.TheVariants.{Days, By}
 use Rattle.html_sheets.specs.declared.links.Links.{Links}
 use Rattle.html_sheets.specs.declared.links.Links.TheVariants.{Pages}
 
 -- the title of a list of what is due
 abbrev pub list_title : DueList → List ℕ
-list_title list.Days = codes "Deadlines"
-list_title list.Today = codes "Today"
-list_title list.Week = codes "This week"
-list_title list.Overdue = codes "Overdue"
+list_title Days = codes "Deadlines"
+list_title (By Today) = codes "Today"
+list_title (By Week) = codes "This week"
+list_title (By Overdue) = codes "Overdue"
 
 -- seven days earlier and later, within the days that have a date here: 1980-01-01 to 3999-12-31
 unfoldable pub week_before : ℕ → ℕ
@@ -54,10 +55,8 @@ zone_told court = element (codes "p") [] (codes "Times are local, in the zone " 
 
 -- whether a list leads to the days a week before and a week after: one of days that a reader chose does, and one by the day of today does not
 abbrev pub has_weeks : DueList → Bool
-has_weeks list.Days = true
-has_weeks list.Today = false
-has_weeks list.Week = false
-has_weeks list.Overdue = false
+has_weeks Days = true
+has_weeks (By due) = false
 
 abbrev pub weeks_nav : Bool → ℕ → ℕ → List ℕ
 weeks_nav false from to = []

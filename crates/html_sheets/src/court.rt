@@ -6,10 +6,10 @@ ghost use Rattle.docket_text.specs.CourtCalendar.{item_text};
 
 use crate::about::About;
 use crate::entering::{calendar_kinds, push_enter_nav};
-use crate::page::{page_foot, page_head};
+use crate::page::{page_head, push_site_foot};
 use crate::piece::{Told, table_foot};
 use crate::site::site_nav;
-use court_days::Court;
+use court_days::{Court, Day};
 use docket_command::Word;
 use docket_history::{CalendarItem, CalendarRow};
 use docket_text::{ClockText, DayText, MomentText};
@@ -117,14 +117,15 @@ fn push_rows(
     Ok(())
 }
 
-/// Returns the page of the rows that the court entered in its calendar: of each its number, by which it is
-/// withdrawn, what it enters, and its name. It has links to the forms that change them.
+/// Returns the page of the rows that the court entered in its calendar, as they stand on a day: of each its
+/// number, by which it is withdrawn, what it enters, and its name. It has links to the forms that change them.
 pub fn court_days_page(
     alloc: Global,
     court: &Court,
     rows: &[CalendarRow],
+    day: Day,
 ) -> Result<String, AllocError>
-    ensures { IfOk result (λ text. string_bytes text ≡ court_days_page court.now rows.now) }
+    ensures { IfOk result (λ text. string_bytes text ≡ court_days_page court.now rows.now day) }
 {
     let mut text = page_head(alloc, "Court days")?;
     text.push_str(site_nav())?;
@@ -132,6 +133,6 @@ pub fn court_days_page(
     text.push_str(calendar_head())?;
     push_rows(alloc, &mut text, court, rows)?;
     text.push_str(table_foot())?;
-    text.push_str(page_foot())?;
+    push_site_foot(&mut text, day)?;
     Ok(text)
 }

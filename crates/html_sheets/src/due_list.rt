@@ -2,17 +2,15 @@
 ghost use Rattle.std.specs.Prelude.{◌≡◌};
 ghost use Rattle.html_sheets.specs.Weeks.{has_weeks, list_title};
 
+use crate::due::Due;
+
 /// Which deadlines a page lists.
 #[derive(Clone, Copy)]
 pub enum DueList {
     /// Those of some days.
     Days,
-    /// Those of the day of the request.
-    Today,
-    /// Those of the seven days from it.
-    Week,
-    /// Those of the days before it.
-    Overdue,
+    /// Those by the day of the request.
+    By(Due),
 }
 
 impl DueList {
@@ -22,9 +20,9 @@ impl DueList {
     {
         match self {
             DueList::Days => "Deadlines",
-            DueList::Today => "Today",
-            DueList::Week => "This week",
-            DueList::Overdue => "Overdue",
+            DueList::By(Due::Today) => "Today",
+            DueList::By(Due::Week) => "This week",
+            DueList::By(Due::Overdue) => "Overdue",
         }
     }
 
@@ -34,7 +32,7 @@ impl DueList {
     {
         match self {
             DueList::Days => true,
-            DueList::Today | DueList::Week | DueList::Overdue => false,
+            DueList::By(_) => false,
         }
     }
 }

@@ -10,7 +10,7 @@ ghost use Rattle.html_sheets.specs.Escapes.{is_control, blanked_byte, escaped, l
 ghost use Rattle.html_sheets.specs.Marks.{marks};
 ghost use Rattle.html_sheets.specs.Pages.{page_head, case_row};
 ghost use Rattle.html_sheets.specs.Sheets.{case_sheet};
-ghost use Rattle.html_sheets.specs.Sites.{cases_page, search_page, case_page, days_page_head, text_page, reasons_page, court_days_page};
+ghost use Rattle.html_sheets.specs.Sites.{cases_page, search_page, case_page, days_page_head, days_page_foot, text_page, printed_page, reasons_page, court_days_page};
 ghost use Rattle.html_sheets.specs.Weeks.{days_head, has_weeks, week_head, due_row, named_row};
 ghost use Rattle.html_sheets.specs.Reading.{begins_reference, read_text};
 ghost use Rattle.html_sheets.specs.declared.due_list.DueList.{DueList};
@@ -38,7 +38,8 @@ pub fn texts_are_read_back()
 /// entries and deadlines, and their pages. So have two pages of as many cases, if both or none lead to newer
 /// cases, and both or none to older ones; two pages of searches that found as many cases, if there are more
 /// for both or none; two pages of texts, of reasons for deadlines of which the same was filed, and of as many
-/// rows of the court's calendar; two lists of what is due, up to their rows, if both or none lead to other weeks.
+/// rows of the court's calendar; two lists of what is due, up to their rows, if both or none lead to other weeks,
+/// and behind them. The day on which a page is printed changes none of them.
 pub fn tags_are_the_pages_own()
     ensures heads { (title other : List ℕ) → marks (page_head title) ≡ marks (page_head other) }
     ensures cases { (case other : CaseRow) → marks (case_row case) ≡ marks (case_row other) }
@@ -54,19 +55,22 @@ pub fn tags_are_the_pages_own()
         → length deadlines ≡ length lines
         → marks (case_sheet links court case deadlines) ≡ marks (case_sheet links place other lines) }
     ensures lists { (cases others : List CaseRow) (newer later older earlier : Option ℕ) → length cases ≡ length others
-        → is_some newer ≡ is_some later → is_some older ≡ is_some earlier
-        → marks (cases_page cases newer older) ≡ marks (cases_page others later earlier) }
+        → is_some newer ≡ is_some later → is_some older ≡ is_some earlier → (day night : ℕ)
+        → marks (cases_page cases newer older day) ≡ marks (cases_page others later earlier night) }
     ensures searches { (words text : List ℕ) (cases others : List CaseRow) (more : Bool) → length cases ≡ length others
-        → marks (search_page words cases more) ≡ marks (search_page text others more) }
+        → (day night : ℕ) → marks (search_page words cases more day) ≡ marks (search_page text others more night) }
     ensures pages { (court place : CourtSettings) (case other : CaseRecord) (deadlines lines : List DeadlineLine)
         → length case.parties ≡ length other.parties → length case.entries ≡ length other.entries
         → length deadlines ≡ length lines
-        → marks (case_page court case deadlines) ≡ marks (case_page place other lines) }
+        → (day night : ℕ) → marks (case_page court case deadlines day) ≡ marks (case_page place other lines night) }
     ensures texts { (title other text words : List ℕ) → marks (text_page title text) ≡ marks (text_page other words) }
-    ensures reasons { (case other deadline last : ℕ) (text words : List ℕ) (filed : Filed)
-        → marks (reasons_page case deadline text filed) ≡ marks (reasons_page other last words filed) }
+    ensures printed { (title other text words : List ℕ) (day night : ℕ)
+        → marks (printed_page title text day) ≡ marks (printed_page other words night) }
+    ensures reasons { (case other deadline last : ℕ) (text words : List ℕ) (filed : Filed) (day night : ℕ)
+        → marks (reasons_page case deadline text filed day) ≡ marks (reasons_page other last words filed night) }
     ensures courts { (court place : CourtSettings) (rows others : List CalendarRow) → length rows ≡ length others
-        → marks (court_days_page court rows) ≡ marks (court_days_page place others) }
+        → (day night : ℕ) → marks (court_days_page court rows day) ≡ marks (court_days_page place others night) }
     ensures calendars { (list other : DueList) (court place : CourtSettings) (from to day later : ℕ) → has_weeks list ≡ has_weeks other
         → marks (days_page_head list court from to) ≡ marks (days_page_head other place day later) }
+    ensures feet { (from to first last day night : ℕ) → marks (days_page_foot from to day) ≡ marks (days_page_foot first last night) }
 {}

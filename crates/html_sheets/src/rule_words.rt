@@ -35,7 +35,29 @@ fn rule_words(rule: Rule) -> &'static str
     }
 }
 
-/// A rule by its name. One of the table has its words before it.
+/// A rule by its name, as a text that is not within a page. One of the table has its words before it.
+#[derive(Clone, Copy)]
+pub struct RuleText<'a>(pub &'a str);
+
+impl fmt::Display for RuleText<'_> {
+    ghost use Rattle.std.specs.Prelude.{Some};
+    ghost use Rattle.html_sheets.specs.RuleWords.{rule_text};
+
+    ghost output = { λ rule. Some (rule_text rule.0.now) };
+
+    fn fmt<W: fmt::Write>(&self, f: &mut fmt::Formatter<W>) -> fmt::Result {
+        let name = self.0;
+        match Rule::read(name) {
+            Some(rule) => {
+                let words = rule_words(rule);
+                write!(f, "{words}, {name}")
+            }
+            None => f.write_str(name),
+        }
+    }
+}
+
+/// A rule by its name, within a page. One of the table has its words before it.
 #[derive(Clone, Copy)]
 pub(crate) struct RuleTold<'a>(pub(crate) &'a str);
 

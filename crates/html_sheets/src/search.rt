@@ -3,9 +3,10 @@ ghost use Rattle.std.specs.Prelude.{◌≡◌, ◌++◌, IfOk, OnOk, string_byte
 ghost use Rattle.html_sheets.specs.Sites.{words_told, found_told, more_told, search_page};
 
 use crate::cases::{cases_foot, cases_head};
-use crate::page::{page_foot, page_head};
+use crate::page::{page_head, push_site_foot};
 use crate::piece::Told;
 use crate::site::{push_rows, site_nav};
+use court_days::Day;
 use docket_history::CaseRow;
 use std::alloc::{AllocError, Global};
 
@@ -41,21 +42,22 @@ fn more_told(more: bool) -> &'static str
     }
 }
 
-/// Returns the page of a search: the words that were searched for, a table of the cases found, and whether
-/// there are more.
+/// Returns the page of a search on a day: the words that were searched for, a table of the cases found, and
+/// whether there are more.
 pub fn search_page(
     alloc: Global,
     words: &str,
     cases: &[CaseRow],
     more: bool,
+    day: Day,
 ) -> Result<String, AllocError>
-    ensures { IfOk result (λ page. string_bytes page ≡ search_page words.now cases.now more) }
+    ensures { IfOk result (λ page. string_bytes page ≡ search_page words.now cases.now more day) }
 {
     let mut page = page_head(alloc, "Search")?;
     page.push_str(site_nav())?;
     push_words(&mut page, words)?;
     push_found(alloc, &mut page, cases)?;
     page.push_str(more_told(more))?;
-    page.push_str(page_foot())?;
+    push_site_foot(&mut page, day)?;
     Ok(page)
 }

@@ -2,12 +2,12 @@
 ghost use Rattle.std.specs.Prelude.{◌≡◌, ◌++◌, IfOk, OnOk, string_bytes};
 ghost use Rattle.std.specs.List.{flat_map};
 ghost use Rattle.html_sheets.specs.Pages.{case_row};
-ghost use Rattle.html_sheets.specs.Sites.{site_nav, more_cases, cases_page, case_page, days_page_head, days_page_foot};
+ghost use Rattle.html_sheets.specs.Sites.{site_nav, more_cases, cases_page, case_page, days_page_head};
 
 use crate::cases::{case_row, cases_foot, cases_head};
 use crate::due_list::DueList;
 use crate::links::Links;
-use crate::page::{page_foot, page_head};
+use crate::page::{page_head, push_site_foot};
 use crate::sheet::case_sheet;
 use crate::week::week_head;
 use court_days::{Court, Day};
@@ -118,15 +118,16 @@ pub(crate) fn push_rows(
     Ok(())
 }
 
-/// Returns the page of a list of cases, a row each. It has links to the cases before the number `newer`, and
-/// to those before `older`, if these are given.
+/// Returns the page of a list of cases on a day, a row each. It has links to the cases before the number
+/// `newer`, and to those before `older`, if these are given.
 pub fn cases_page(
     alloc: Global,
     cases: &[CaseRow],
     newer: Option<u32>,
     older: Option<u32>,
+    day: Day,
 ) -> Result<String, AllocError>
-    ensures { IfOk result (λ text. string_bytes text ≡ cases_page cases.now newer older) }
+    ensures { IfOk result (λ text. string_bytes text ≡ cases_page cases.now newer older day) }
 {
     let mut text = page_head(alloc, "Cases")?;
     text.push_str(site_nav())?;
@@ -134,24 +135,25 @@ pub fn cases_page(
     push_rows(alloc, &mut text, cases)?;
     text.push_str(cases_foot())?;
     push_more(&mut text, newer, older)?;
-    text.push_str(page_foot())?;
+    push_site_foot(&mut text, day)?;
     Ok(text)
 }
 
-/// The page of a case: its docket sheet under its label.
+/// The page of a case on a day: its docket sheet under its label.
 pub fn case_page(
     alloc: Global,
     court: &Court,
     case: &CaseRecord,
     deadlines: &[DeadlineLine],
+    day: Day,
 ) -> Result<String, AllocError>
-    ensures { IfOk result (λ text. string_bytes text ≡ case_page court.now case.now deadlines.now) }
+    ensures { IfOk result (λ text. string_bytes text ≡ case_page court.now case.now deadlines.now day) }
 {
     let mut text = page_head(alloc, case.label.as_str())?;
     text.push_str(site_nav())?;
     let sheet = case_sheet(alloc, Links::Pages, court, case, deadlines)?;
     text.push_str(&sheet)?;
-    text.push_str(page_foot())?;
+    push_site_foot(&mut text, day)?;
     Ok(text)
 }
 
@@ -170,12 +172,4 @@ pub fn days_page_head(
     let week = week_head(alloc, list, court, from, to)?;
     text.push_str(&week)?;
     Ok(text)
-}
-
-/// What ends that page, behind its rows.
-#[tactic(auto, unfolding(crate::specs::Elements::table_foot))]
-pub fn days_page_foot() -> &'static str
-    ensures { result.now ≡ days_page_foot }
-{
-    "</tbody>\n</table>\n</main>\n</body>\n</html>\n"
 }

@@ -22,6 +22,7 @@ pub(crate) fn style_text() -> &'static str
      nav form { font-size: .875rem }\n\
      nav form + form { margin-left: auto }\n\
      nav input, nav button { padding: .2rem .5rem }\n\
+     .printed { display: none }\n\
      .act a { font-size: .875rem; margin-left: .5rem; white-space: nowrap }\n\
      dl { display: grid; grid-template-columns: max-content auto; gap: .2rem 1rem; margin: .5rem 0 }\n\
      dt { color: var(--soft) }\n\
@@ -48,5 +49,5 @@ pub(crate) fn style_text() -> &'static str
      @media screen and (max-width: 52rem) { table, thead, tbody { display: block } tr { display: flex; flex-wrap: wrap; gap: 0 .75rem; padding: .4rem 0; border-bottom: 1px solid var(--line) } th, td { border: 0; padding: 0 } }\n\
      @media screen and (max-width: 52rem) { td:nth-child(4):nth-last-child(6)::before { content: 'case ' } td:nth-child(6):nth-last-child(4)::before { content: 'deadline ' } td:nth-child(8):nth-last-child(2)::before { content: 'party ' } }\n\
      @media screen and (max-width: 52rem) { pre { white-space: pre-wrap } .number bdi { white-space: normal } nav form + form { margin-left: 0 } }\n\
-     @media print { nav, form, .act { display: none } main { display: block } body { max-width: none; padding: 0; font-size: 10pt } a { color: inherit; text-decoration: none } thead { display: table-header-group } tr { break-inside: avoid } }\n"
+     @media print { nav, form, .act { display: none } main, .printed { display: block } body { max-width: none; padding: 0; font-size: 10pt } a { color: inherit; text-decoration: none } thead { display: table-header-group } tr { break-inside: avoid } }\n"
 }

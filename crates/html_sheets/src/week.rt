@@ -2,6 +2,7 @@
 ghost use Rattle.std.specs.Prelude.{◌≡◌, IfOk, string_bytes};
 ghost use Rattle.html_sheets.specs.Weeks.{week_before, week_after, due_columns, days_head, zone_told, week_head, due_row, named_row};
 
+use crate::due::{FIRST_DAY, LAST_DAY};
 use crate::due_list::DueList;
 use crate::links::Links;
 use crate::piece::{CaseNumber, DeadlineNumber, Told, WeekdayTold};
@@ -11,12 +12,6 @@ use docket_history::DueRow;
 use docket_text::{ClockText, DayText, PartyText, shown, shown_minute};
 use std::alloc::{AllocError, Global};
 use std::fmt;
-
-/// 1980-01-01, the first `Day`.
-const FIRST_DAY: u32 = 3652;
-
-/// 3999-12-31, the last `Day`.
-const LAST_DAY: u32 = 741_441;
 
 /// The day seven days earlier, or the first.
 #[tactic(auto, unfolding(crate::specs::Weeks::week_before))]

@@ -39,7 +39,7 @@ drop_past [] e ys = refl
 drop_past (x ∷ xs) e ys = drop_past xs e ys
 
 module _ (is_end : ℕ → Bool) where
-  abbrev goes_on : ℕ → Bool
+  abbrev pub goes_on : ℕ → Bool
   goes_on b = not (is_end b)
 
   first_at : (xs : List ℕ) (e : ℕ) (ys : List ℕ) → list_all goes_on xs ≡ true → is_end e ≡ true → position_or_len is_end (xs ++ e ∷ ys) ≡ length xs
@@ -57,10 +57,10 @@ module _ (is_end : ℕ → Bool) where
       let step : position_or_len is_end (x ∷ xs) ≡ 1 + position_or_len is_end xs = ap (λ v. cond v (1 + position_or_len is_end xs) 0) parts.0 in
       omega (arith, step, nowhere xs parts.1)
 
-  before_end : (xs : List ℕ) (e : ℕ) (ys : List ℕ) → list_all goes_on xs ≡ true → is_end e ≡ true → before_first is_end (xs ++ e ∷ ys) ≡ xs
+  pub before_end : (xs : List ℕ) (e : ℕ) (ys : List ℕ) → list_all goes_on xs ≡ true → is_end e ≡ true → before_first is_end (xs ++ e ∷ ys) ≡ xs
   before_end xs e ys none end = ap (λ n. take n (xs ++ e ∷ ys)) (first_at xs e ys none end) ∙ take_at xs (e ∷ ys) (length xs) refl
 
-  behind_end : (xs : List ℕ) (e : ℕ) (ys : List ℕ) → list_all goes_on xs ≡ true → is_end e ≡ true → behind_first is_end (xs ++ e ∷ ys) ≡ Some ys
+  pub behind_end : (xs : List ℕ) (e : ℕ) (ys : List ℕ) → list_all goes_on xs ≡ true → is_end e ≡ true → behind_first is_end (xs ++ e ∷ ys) ≡ Some ys
   behind_end xs e ys none end =
       let text : List ℕ = xs ++ e ∷ ys in
       let at : position_or_len is_end text ≡ length xs = first_at xs e ys none end in
@@ -69,10 +69,10 @@ module _ (is_end : ℕ → Bool) where
       let past : position_or_len is_end text + 1 ≡ suc (length xs) = omega (arith, at) in
       ap (λ v. cond v (Some (after_first is_end text)) None) below ∙ ap (λ n. Some (drop n text)) past ∙ ap (λ rest. Some rest) (drop_past xs e ys)
 
-  before_all : (xs : List ℕ) → list_all goes_on xs ≡ true → before_first is_end xs ≡ xs
+  pub before_all : (xs : List ℕ) → list_all goes_on xs ≡ true → before_first is_end xs ≡ xs
   before_all xs none = take_all (position_or_len is_end xs) xs (omega (arith, nowhere xs none))
 
-  behind_all : (xs : List ℕ) → list_all goes_on xs ≡ true → behind_first is_end xs ≡ None
+  pub behind_all : (xs : List ℕ) → list_all goes_on xs ≡ true → behind_first is_end xs ≡ None
   behind_all xs none = ap (λ v. cond v (Some (after_first is_end xs)) None) (not_below _ _ (nowhere xs none))
 
 -- ---- a number in digits
@@ -175,18 +175,18 @@ kind_back : (kind : CommandName) → kind ≢ ImportCalendar → entered_kind (c
 kind_back ImportCalendar other = absurd (other refl)
 kind_back _ other = refl
 
-page_back : (kind : CommandName) (about : About) (fresh : ℕ) → kind ≢ ImportCalendar → HasNumbers about
-    → page_of fresh (codes "/enter/" ++ command_word kind) (query_about about) ≡ Some (Some (Enter kind about fresh))
-page_back kind about fresh other is =
-    ap (λ k. option_map (λ named. kind_page named (about_of (query_about about)) fresh) k) (kind_back kind other)
-    ∙ ap (λ a. Some (kind_page kind a fresh)) (about_back about is)
+page_back : (kind : CommandName) (about : About) → kind ≢ ImportCalendar → HasNumbers about
+    → page_of (codes "/enter/" ++ command_word kind) (query_about about) ≡ Some (Some (Enter kind about))
+page_back kind about other is =
+    ap (λ k. option_map (λ named. kind_page named (about_of (query_about about))) k) (kind_back kind other)
+    ∙ ap (λ a. Some (kind_page kind a)) (about_back about is)
 
 wish_back : (fields : List (List ℕ × List ℕ)) (kind : CommandName) (about : About) (fresh : ℕ) → kind ≢ ImportCalendar → HasNumbers about
-    → path_wish fresh (codes "GET") (form_target kind about) fields (behind (codes "/pages") (path_of (form_target kind about))) ≡ PageWish (Enter kind about fresh)
+    → path_wish fresh (codes "GET") (form_target kind about) fields (behind (codes "/pages") (path_of (form_target kind about))) ≡ PageWish (Enter kind about) fresh
 wish_back fields kind about fresh other is =
     ap (λ path. path_wish fresh (codes "GET") (form_target kind about) fields (behind (codes "/pages") path)) (path_is kind about)
-    ∙ ap (λ query. page_wish (codes "GET") (page_of fresh (codes "/enter/" ++ command_word kind) query)) (query_is kind about)
-    ∙ ap (page_wish (codes "GET")) (page_back kind about fresh other is)
+    ∙ ap (λ query. page_wish fresh (codes "GET") (page_of (codes "/enter/" ++ command_word kind) query)) (query_is kind about)
+    ∙ ap (page_wish fresh (codes "GET")) (page_back kind about other is)
 
 shown : (routes : Routes) (path : List ℕ) → AreShown routes → pages_rest routes path ≡ behind (codes "/pages") path
 shown Docket path with = absurd with
@@ -194,12 +194,12 @@ shown (Guarded origins) path with = absurd with
 shown (WithPages origins) path with = refl
 
 -- what is asked for by a target that is got, where it is let through
-got : (routes : Routes) (fields : List (List ℕ × List ℕ)) (target : List ℕ) (fresh : ℕ) (wish : Wish) → AreShown routes → is_foreign routes (codes "GET") fields ≡ false
+pub got : (routes : Routes) (fields : List (List ℕ × List ℕ)) (target : List ℕ) (fresh : ℕ) (wish : Wish) → AreShown routes → is_foreign routes (codes "GET") fields ≡ false
     → path_wish fresh (codes "GET") target fields (behind (codes "/pages") (path_of target)) ≡ wish → wish_of routes fresh (codes "GET") target fields ≡ wish
 got routes fields target fresh wish with own is = rw own (ap (path_wish fresh (codes "GET") target fields) (shown routes (path_of target) with) ∙ is)
 
 pub leads : (routes : Routes) (fields : List (List ℕ × List ℕ)) (kind : CommandName) (about : About) (fresh : ℕ) → AreShown routes → is_foreign routes (codes "GET") fields ≡ false
-    → kind ≢ ImportCalendar → HasNumbers about → wish_of routes fresh (codes "GET") (form_target kind about) fields ≡ PageWish (Enter kind about fresh)
+    → kind ≢ ImportCalendar → HasNumbers about → wish_of routes fresh (codes "GET") (form_target kind about) fields ≡ PageWish (Enter kind about) fresh
 leads routes fields kind about fresh with own other is = got routes fields (form_target kind about) fresh _ with own (wish_back fields kind about fresh other is)
 
 -- ---- the lists of cases
@@ -208,12 +208,12 @@ abbrev before_query : ℕ → List ℕ
 before_query number = codes "before=" ++ decimal number
 
 list_back : (fields : List (List ℕ × List ℕ)) (number fresh : ℕ) → IsNumber number
-    → path_wish fresh (codes "GET") (list_target number) fields (behind (codes "/pages") (path_of (list_target number))) ≡ PageWish (Cases (Some number))
+    → path_wish fresh (codes "GET") (list_target number) fields (behind (codes "/pages") (path_of (list_target number))) ≡ PageWish (Cases (Some number)) fresh
 list_back fields number fresh is =
     ap (λ path. path_wish fresh (codes "GET") (list_target number) fields (behind (codes "/pages") path)) (before_end is_question_mark (codes "/pages/cases") 63 (before_query number) refl refl)
-    ∙ ap (λ query. page_wish (codes "GET") (page_of fresh (codes "/cases") query)) (behind_end is_question_mark (codes "/pages/cases") 63 (before_query number) refl refl)
-    ∙ ap (λ n. page_wish (codes "GET") (Some (option_map (λ k. Cases (Some k)) n))) (number_back number is)
+    ∙ ap (λ query. page_wish fresh (codes "GET") (page_of (codes "/cases") query)) (behind_end is_question_mark (codes "/pages/cases") 63 (before_query number) refl refl)
+    ∙ ap (λ n. page_wish fresh (codes "GET") (Some (option_map (λ k. Cases (Some k)) n))) (number_back number is)
 
 pub list_leads : (routes : Routes) (fields : List (List ℕ × List ℕ)) (number fresh : ℕ) → AreShown routes → is_foreign routes (codes "GET") fields ≡ false
-    → IsNumber number → wish_of routes fresh (codes "GET") (list_target number) fields ≡ PageWish (Cases (Some number))
+    → IsNumber number → wish_of routes fresh (codes "GET") (list_target number) fields ≡ PageWish (Cases (Some number)) fresh
 list_leads routes fields number fresh with own is = got routes fields (list_target number) fresh _ with own (list_back fields number fresh is)

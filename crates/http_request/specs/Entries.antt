@@ -38,9 +38,9 @@ about_of (Some query) = option_and_then case_about (behind (codes "case=") query
 abbrev pub entered_kind : List ℕ → Option CommandName
 entered_kind word = if bytes_eq word (codes "import_calendar") then None else command_named word
 
-abbrev pub kind_page : CommandName → Option About → ℕ → Option Page
-kind_page kind about fresh = option_map (λ a. Enter kind a fresh) about
+abbrev pub kind_page : CommandName → Option About → Option Page
+kind_page kind about = option_map (λ a. Enter kind a) about
 
--- the form of the kind that a word names, where there is one, about what the query says, with a fresh number. The query may be bad.
-abbrev pub entry_page : ℕ → List ℕ → Option (List ℕ) → Option (Option Page)
-entry_page fresh word query = option_map (λ kind. kind_page kind (about_of query) fresh) (entered_kind word)
+-- the form of the kind that a word names, where there is one, about what the query says. The query may be bad.
+abbrev pub entry_page : List ℕ → Option (List ℕ) → Option (Option Page)
+entry_page word query = option_map (λ kind. kind_page kind (about_of query)) (entered_kind word)

@@ -1,10 +1,10 @@
 -- The pages, and what asks for them: what stands behind "/pages" in a path, and the query.
 use Rattle.std.specs.Prelude.{ℕ, List, [], Option, Some, None, Bool, ◌||◌, bytes_eq, if◌then◌else◌, codes, option_map, option_and_then}
+use Rattle.html_sheets.specs.declared.due.Due.TheVariants.{Today, Week, Overdue}
 use Rattle.http_request.specs.declared.route.Route.{Route}
 use Rattle.http_request.specs.declared.route.Route.TheVariants.{Commands, Case as CaseRoute, Deadlines, Calendar, Holidays}
 use Rattle.http_request.specs.declared.page.Routes.{Routes}
 use Rattle.http_request.specs.declared.page.Routes.TheVariants.{Docket, Guarded, WithPages}
-use Rattle.http_request.specs.declared.due.Due.TheVariants.{Today, Week, Overdue}
 use Rattle.http_request.specs.declared.page.Page.{Page}
 use Rattle.http_request.specs.declared.page.Page.TheVariants.{Cases, Case, Days, Due, Search, Kinds, CourtDays, Rules}
 use Rattle.http_request.specs.Path.{place_of, behind}
@@ -53,20 +53,20 @@ numbered_page (Some page) rest = Some page
 numbered_page None rest = option_and_then (λ place. page_at place.route place.first place.second) (place_of rest)
 
 -- the form that a word behind "/enter/" names, where the path has one, and else a page with a number or a day in its path
-abbrev pub named_page : ℕ → Option (List ℕ) → List ℕ → Option (List ℕ) → Option (Option Page)
-named_page fresh (Some word) rest query = entry_page fresh word query
-named_page fresh None rest query = numbered_page (deadline_page rest) rest
+abbrev pub named_page : Option (List ℕ) → List ℕ → Option (List ℕ) → Option (Option Page)
+named_page (Some word) rest query = entry_page word query
+named_page None rest query = numbered_page (deadline_page rest) rest
 
--- the page that the rest of a path asks for, with the query and a fresh number. A value in them may be bad.
-abbrev pub page_of : ℕ → List ℕ → Option (List ℕ) → Option (Option Page)
-page_of fresh rest query =
+-- the page that the rest of a path asks for, with the query. A value in them may be bad.
+abbrev pub page_of : List ℕ → Option (List ℕ) → Option (Option Page)
+page_of rest query =
     if is_list rest then Some (list_page query)
-    else if bytes_eq rest (codes "/today") then Some (Some (Due Today fresh))
-    else if bytes_eq rest (codes "/week") then Some (Some (Due Week fresh))
-    else if bytes_eq rest (codes "/overdue") then Some (Some (Due Overdue fresh))
+    else if bytes_eq rest (codes "/today") then Some (Some (Due Today))
+    else if bytes_eq rest (codes "/week") then Some (Some (Due Week))
+    else if bytes_eq rest (codes "/overdue") then Some (Some (Due Overdue))
     else if bytes_eq rest (codes "/search") then Some (search_page query)
     else if bytes_eq rest (codes "/calendar") then Some (week_page query)
     else if bytes_eq rest (codes "/court-days") then Some (Some CourtDays)
     else if bytes_eq rest (codes "/rules") then Some (Some Rules)
     else if bytes_eq rest (codes "/enter") then Some (Some Kinds)
-    else named_page fresh (behind (codes "/enter/") rest) rest query
+    else named_page (behind (codes "/enter/") rest) rest query

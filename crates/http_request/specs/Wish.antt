@@ -6,14 +6,17 @@ use Rattle.httparse.specs.Spans.{name_and_value}
 use Rattle.http_request.specs.declared.route.Route.{Route}
 use Rattle.http_request.specs.declared.route.Route.TheVariants.{Commands, Case as CaseRoute, Deadlines as DeadlinesRoute, Calendar as CalendarRoute, Holidays as HolidaysRoute}
 use Rattle.http_request.specs.Path.{Place, place_of}
+use Rattle.http_request.specs.declared.export.Export.{Export}
+use Rattle.http_request.specs.declared.export.Export.TheVariants as export
 use Rattle.http_request.specs.declared.fields.Rejection.{Rejection}
 use Rattle.http_request.specs.declared.fields.Rejection.TheVariants.{BadHead, NotFound, Method, BadPathValue, Foreign}
 use Rattle.http_request.specs.declared.wish.Wish.{Wish}
-use Rattle.http_request.specs.declared.wish.Wish.TheVariants.{Reject, Refuse, Command, Form, Preview, Case, Deadlines, Calendar, Holidays, Page as PageWish, Copy}
+use Rattle.http_request.specs.declared.wish.Wish.TheVariants.{Reject, Refuse, Command, Form, Preview, Case, Deadlines, Calendar, Holidays, Page as PageWish, Export as ExportWish, Copy}
 use Rattle.http_request.specs.declared.page.Routes.{Routes}
 use Rattle.http_request.specs.declared.page.Page.{Page}
 use Rattle.http_request.specs.Number.{number_of, year_of}
 use Rattle.http_request.specs.Days.{days_of}
+use Rattle.http_request.specs.Exports.{days_asked}
 use Rattle.http_request.specs.Fields.{body_length}
 use Rattle.http_request.specs.Forms.{form_length}
 use Rattle.http_request.specs.Guard.{is_foreign}
@@ -58,14 +61,22 @@ abbrev pub place_wish : List ℕ → List (List ℕ × List ℕ) → Option Plac
 place_wish method fields None = Reject NotFound
 place_wish method fields (Some place) = if is_method place.route method then route_wish place.route place.first place.second fields else Reject Method
 
-abbrev pub got_wish : Option Page → Wish
-got_wish None = Refuse BadPathValue
-got_wish (Some page) = PageWish page
+abbrev pub got_wish : ℕ → Option Page → Wish
+got_wish fresh None = Refuse BadPathValue
+got_wish fresh (Some page) = PageWish page fresh
 
 -- a page is got
-abbrev pub page_wish : List ℕ → Option (Option Page) → Wish
-page_wish method None = Refuse NotFound
-page_wish method (Some page) = if bytes_eq method (codes "GET") then got_wish page else Refuse Method
+abbrev pub page_wish : ℕ → List ℕ → Option (Option Page) → Wish
+page_wish fresh method None = Refuse NotFound
+page_wish fresh method (Some page) = if bytes_eq method (codes "GET") then got_wish fresh page else Refuse Method
+
+abbrev pub days_wish : Export → ℕ → Option (Option (ℕ × ℕ)) → Wish
+days_wish form fresh None = Reject BadPathValue
+days_wish form fresh (Some days) = ExportWish form days fresh
+
+-- an export is got
+abbrev pub export_wish : Export → ℕ → List ℕ → Option (Option (ℕ × ℕ)) → Wish
+export_wish form fresh method days = if bytes_eq method (codes "GET") then days_wish form fresh days else Reject Method
 
 -- a copy is got
 abbrev pub copy_wish : List ℕ → Wish
@@ -77,13 +88,16 @@ form_wish wish fresh (Ok n) = wish n fresh
 form_wish wish fresh (Err rejection) = Refuse rejection
 
 -- what the rest of a path behind "/pages" asks for, with the query and a fresh number: a copy of the docket's file, a form that is
--- entered, what a form would do, or a page. What is refused here is refused with a page.
+-- entered, what a form would do, an export, or a page. What is refused here is refused with a page, but for an export.
 abbrev pub rest_wish : ℕ → List ℕ → List (List ℕ × List ℕ) → List ℕ → Option (List ℕ) → Wish
 rest_wish fresh method fields rest query =
     if bytes_eq rest (codes "/backup") then copy_wish method
     else if bytes_eq rest (codes "/commands") then form_wish Form fresh (form_length method fields)
     else if bytes_eq rest (codes "/previews") then form_wish Preview fresh (form_length method fields)
-    else page_wish method (page_of fresh rest query)
+    else if bytes_eq rest (codes "/due.ics") then export_wish export.Calendar fresh method (days_asked query)
+    else if bytes_eq rest (codes "/due.csv") then export_wish export.Csv fresh method (days_asked query)
+    else if bytes_eq rest (codes "/due.json") then export_wish export.Json fresh method (days_asked query)
+    else page_wish fresh method (page_of rest query)
 
 -- what a path asks for: one of the docket, or what its rest behind "/pages" asks for
 abbrev pub path_wish : ℕ → List ℕ → List ℕ → List (List ℕ × List ℕ) → Option (List ℕ) → Wish
@@ -117,5 +131,6 @@ IsWithinLimits (Preview len fresh) = Unit {0}
 IsWithinLimits (Case number) = Unit {0}
 IsWithinLimits (Deadlines number) = Unit {0}
 IsWithinLimits (Calendar from to) = Unit {0}
-IsWithinLimits (PageWish page) = Unit {0}
+IsWithinLimits (PageWish page fresh) = Unit {0}
+IsWithinLimits (ExportWish form days fresh) = Unit {0}
 IsWithinLimits Copy = Unit {0}

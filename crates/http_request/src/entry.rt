@@ -48,16 +48,16 @@ fn entered_kind(word: &str) -> Option<CommandName>
     }
 }
 
-fn kind_page(kind: CommandName, about: Option<About>, fresh: u64) -> Option<Page>
-    ensures { result ≡ page_of_kind kind about fresh }
+fn kind_page(kind: CommandName, about: Option<About>) -> Option<Page>
+    ensures { result ≡ page_of_kind kind about }
 {
-    Some(Page::Enter(kind, about?, fresh))
+    Some(Page::Enter(kind, about?))
 }
 
 /// The form of the kind that a word names, where there is one, about what the query says. The query may be bad.
-pub fn entry_page(word: &str, query: Option<&str>, fresh: u64) -> Option<Option<Page>>
-    ensures { result ≡ entry_page_of fresh word.now (option_copied query.entry) }
+pub fn entry_page(word: &str, query: Option<&str>) -> Option<Option<Page>>
+    ensures { result ≡ entry_page_of word.now (option_copied query.entry) }
 {
     let kind = entered_kind(word)?;
-    Some(kind_page(kind, read_about(query), fresh))
+    Some(kind_page(kind, read_about(query)))
 }

@@ -1,6 +1,7 @@
 //! Laws of the end of a head, of the guard and of links, with nothing to run.
-ghost use Rattle.std.specs.Prelude.{◌≡◌, ◌≢◌, ℕ, ◌≤◌, List, ◌++◌, length, take, codes, false, true, [], ◌∷◌, Option, Some};
+ghost use Rattle.std.specs.Prelude.{◌≡◌, ◌≢◌, ℕ, ◌≤◌, List, ◌++◌, length, take, codes, false, true, [], ◌∷◌, Option, None, Some};
 ghost use Rattle.std.specs.List.{AllByRecursion};
+ghost use Rattle.civil_time.specs.Civil.{IsDayNumber};
 ghost use Rattle.docket_command.specs.declared.command_name.CommandName.{CommandName};
 ghost use Rattle.docket_command.specs.declared.command_name.CommandName.TheVariants.{ImportCalendar};
 ghost use Rattle.html_sheets.specs.declared.about.About.{About};
@@ -8,10 +9,11 @@ ghost use Rattle.http_request.specs.Head.{head_of};
 ghost use Rattle.http_request.specs.Fields.{values_of};
 ghost use Rattle.http_request.specs.Guard.{lets_through, is_foreign};
 ghost use Rattle.http_request.specs.Lines.{IsHeadWithin};
-ghost use Rattle.http_request.specs.Links.{form_target, list_target, AreShown, HasNumbers, IsNumber};
+ghost use Rattle.http_request.specs.Links.{export_path, export_target, form_target, list_target, AreShown, HasNumbers, IsNumber};
 ghost use Rattle.http_request.specs.Wish.{wish_of};
+ghost use Rattle.http_request.specs.declared.export.Export.{Export};
 ghost use Rattle.http_request.specs.declared.page.Page.TheVariants.{Cases, Enter};
-ghost use Rattle.http_request.specs.declared.wish.Wish.TheVariants.{Page};
+ghost use Rattle.http_request.specs.declared.wish.Wish.TheVariants.{Export as ExportWish, Page};
 ghost use Rattle.http_request.specs.Origins.{host_at, origins_at, own_names};
 ghost use Rattle.http_request.specs.declared.page.Routes.{Routes};
 ghost use Rattle.http_request.specs.declared.wish.Wish.{Wish};
@@ -47,12 +49,24 @@ pub fn links_lead_to_their_forms()
     ensures { (routes : Routes) (fields : List (List ℕ × List ℕ)) (kind : CommandName) (about : About) (fresh : ℕ)
         → AreShown routes → is_foreign routes (codes "GET") fields ≡ false
         → kind ≢ ImportCalendar → HasNumbers about
-        → wish_of routes fresh (codes "GET") (form_target kind about) fields ≡ Page (Enter kind about fresh) }
+        → wish_of routes fresh (codes "GET") (form_target kind about) fields ≡ Page (Enter kind about) fresh }
 {}
 
 /// A link to the cases before one leads to their list, for each number of a case.
 pub fn links_lead_to_their_lists()
     ensures { (routes : Routes) (fields : List (List ℕ × List ℕ)) (number fresh : ℕ)
         → AreShown routes → is_foreign routes (codes "GET") fields ≡ false → IsNumber number
-        → wish_of routes fresh (codes "GET") (list_target number) fields ≡ Page (Cases (Some number)) }
+        → wish_of routes fresh (codes "GET") (list_target number) fields ≡ Page (Cases (Some number)) fresh }
+{}
+
+/// A link to an export leads to it: of the days that the link names, or without days of those about the day of the
+/// request. So it is for each form, and for all days from one to another.
+pub fn links_lead_to_their_exports()
+    ensures days { (routes : Routes) (fields : List (List ℕ × List ℕ)) (form : Export) (from to fresh : ℕ)
+        → AreShown routes → is_foreign routes (codes "GET") fields ≡ false
+        → IsDayNumber from → IsDayNumber to → from ≤ to
+        → wish_of routes fresh (codes "GET") (export_target form from to) fields ≡ ExportWish form (Some (from, to)) fresh }
+    ensures about { (routes : Routes) (fields : List (List ℕ × List ℕ)) (form : Export) (fresh : ℕ)
+        → AreShown routes → is_foreign routes (codes "GET") fields ≡ false
+        → wish_of routes fresh (codes "GET") (export_path form) fields ≡ ExportWish form None fresh }
 {}

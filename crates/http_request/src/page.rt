@@ -7,7 +7,6 @@ ghost use Rattle.http_request.specs.Pages.{pages_rest, list_page as list_by_quer
 
 use crate::days::{read_range, read_week};
 use crate::deadline::deadline_page;
-use crate::due::Due;
 use crate::entry::entry_page;
 use crate::number::read_number;
 use crate::place::{RouteMatch, find};
@@ -16,7 +15,7 @@ use crate::search::{Words, read_words};
 use crate::target::behind;
 use civil_time::Day;
 use docket_command::CommandName;
-use html_sheets::About;
+use html_sheets::{About, Due};
 use matchit::Router;
 
 /// Which routes are served.
@@ -39,14 +38,14 @@ pub enum Page {
     Case(u32),
     /// What is due on the days from the first to the last.
     Days(Day, Day),
-    /// What is due by the day of the request, with the number of this request.
-    Due(Due, u64),
+    /// What is due by the day of the request.
+    Due(Due),
     /// The cases that the words are found in.
     Search(Words),
     /// The list of the kinds of commands.
     Kinds,
-    /// The form of a kind of command, about a case, a party or a deadline, with the number of this request.
-    Enter(CommandName, About, u64),
+    /// The form of a kind of command, about a case, a party or a deadline.
+    Enter(CommandName, About),
     /// The rows of the court calendar.
     CourtDays,
     /// The local rules.
@@ -120,42 +119,31 @@ fn numbered_page(router: &Router<Route>, rest: &str) -> Option<Option<Page>>
 
 // The form that a word behind "/enter/" names, where the path has one, and else a page with a number or a day in
 // its path.
-fn named_page(
-    router: &Router<Route>,
-    rest: &str,
-    query: Option<&str>,
-    fresh: u64,
-) -> Option<Option<Page>>
+fn named_page(router: &Router<Route>, rest: &str, query: Option<&str>) -> Option<Option<Page>>
     requires { router.now ≡ route_rows }
-    ensures { result ≡ named_page_of fresh (behind_word (codes "/enter/") rest.now) rest.now (option_copied query.entry) }
+    ensures { result ≡ named_page_of (behind_word (codes "/enter/") rest.now) rest.now (option_copied query.entry) }
 {
     match behind(rest, "/enter/") {
-        Some(word) => entry_page(word, query, fresh),
+        Some(word) => entry_page(word, query),
         None => numbered_page(router, rest),
     }
 }
 
-/// The page that the rest of a path asks for, with the query and the number of this request. A value in them may be
-/// bad.
-pub fn find_page(
-    router: &Router<Route>,
-    rest: &str,
-    query: Option<&str>,
-    fresh: u64,
-) -> Option<Option<Page>>
+/// The page that the rest of a path asks for, with the query. A value in them may be bad.
+pub fn find_page(router: &Router<Route>, rest: &str, query: Option<&str>) -> Option<Option<Page>>
     requires { router.now ≡ route_rows }
-    ensures { result ≡ page_of fresh rest.now (option_copied query.entry) }
+    ensures { result ≡ page_of rest.now (option_copied query.entry) }
 {
     match rest {
         "" | "/" | "/cases" => Some(list_page(query)),
-        "/today" => Some(Some(Page::Due(Due::Today, fresh))),
-        "/week" => Some(Some(Page::Due(Due::Week, fresh))),
-        "/overdue" => Some(Some(Page::Due(Due::Overdue, fresh))),
+        "/today" => Some(Some(Page::Due(Due::Today))),
+        "/week" => Some(Some(Page::Due(Due::Week))),
+        "/overdue" => Some(Some(Page::Due(Due::Overdue))),
         "/search" => Some(search_page(query)),
         "/calendar" => Some(week_page(query)),
         "/court-days" => Some(Some(Page::CourtDays)),
         "/rules" => Some(Some(Page::Rules)),
         "/enter" => Some(Some(Page::Kinds)),
-        _ => named_page(router, rest, query, fresh),
+        _ => named_page(router, rest, query),
     }
 }

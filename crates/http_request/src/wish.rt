@@ -5,9 +5,11 @@ ghost use Rattle.http_request.specs.Rows.{route_rows};
 ghost use Rattle.http_request.specs.Path.{place_of};
 ghost use Rattle.http_request.specs.Pages.{page_of};
 ghost use Rattle.http_request.specs.declared.wish.Wish.TheVariants.{Form, Preview};
-ghost use Rattle.http_request.specs.Wish.{route_wish, place_wish, page_wish as wish_by_page, copy_wish as wish_of_copy, form_wish as wish_of_form, rest_wish as wish_by_rest, wish_of, route_method, is_method, IsHeadWish, IsWithinLimits};
+ghost use Rattle.http_request.specs.Exports.{days_asked as days_by_query};
+ghost use Rattle.http_request.specs.Wish.{route_wish, place_wish, page_wish as wish_by_page, copy_wish as wish_of_copy, export_wish as wish_of_export, form_wish as wish_of_form, rest_wish as wish_by_rest, wish_of, route_method, is_method, IsHeadWish, IsWithinLimits};
 
 use crate::days::read_range;
+use crate::export::{Export, days_asked};
 use crate::fields::{Rejection, body_length};
 use crate::form::form_length;
 use crate::guard::is_foreign;
@@ -32,7 +34,8 @@ const MAX_FIELDS: usize = 64;
 #[derive(Clone, Copy)]
 pub enum Wish {
     Reject(Rejection),
-    /// A refused request for what stands behind "/pages", where pages are served: it gets a page that says why.
+    /// A refused request for what stands behind "/pages", where pages are served: it gets a page that says why. That
+    /// for an export is rejected.
     Refuse(Rejection),
     /// A command, whose text is the body of so many bytes.
     Command(u32),
@@ -47,8 +50,11 @@ pub enum Wish {
     Calendar(Day, Day),
     /// A year from 2000 to 2099.
     Holidays(u32),
-    /// A page, where pages are served.
-    Page(Page),
+    /// A page, where pages are served, with the number of this request.
+    Page(Page, u64),
+    /// The deadlines that fall due on the days from the first to the last, or on those about the day of this request,
+    /// whose number it is. Where pages are served.
+    Export(Export, Option<(Day, Day)>, u64),
     /// A copy of the file in which the docket is kept, where pages are served.
     Copy,
 }
@@ -133,14 +139,28 @@ fn page_wish(
     fresh: u64,
 ) -> Wish
     requires { router.now ≡ route_rows }
-    ensures asks { result ≡ wish_by_page method.now (page_of fresh rest.now (option_copied query.entry)) }
+    ensures asks { result ≡ wish_by_page fresh method.now (page_of rest.now (option_copied query.entry)) }
     ensures within { IsWithinLimits result }
 {
-    match find_page(router, rest, query, fresh) {
+    match find_page(router, rest, query) {
         None => Wish::Refuse(Rejection::NotFound),
         Some(_) if !is_get(method) => Wish::Refuse(Rejection::Method),
         Some(None) => Wish::Refuse(Rejection::BadPathValue),
-        Some(Some(page)) => Wish::Page(page),
+        Some(Some(page)) => Wish::Page(page, fresh),
+    }
+}
+
+// What a request for an export asks for, with the query. The method must be GET.
+fn export_wish(export: Export, method: &[u8], query: Option<&str>, fresh: u64) -> Wish
+    ensures asks { result ≡ wish_of_export export fresh method.now (days_by_query (option_copied query.entry)) }
+    ensures within { IsWithinLimits result }
+{
+    if !is_get(method) {
+        return Wish::Reject(Rejection::Method);
+    }
+    match days_asked(query) {
+        None => Wish::Reject(Rejection::BadPathValue),
+        Some(days) => Wish::Export(export, days, fresh),
     }
 }
 
@@ -177,7 +197,8 @@ fn preview_wish(length: Result<u32, Rejection>, fresh: u64) -> Wish
     }
 }
 
-// What the rest of a path behind "/pages" asks for: a copy, a form that is entered, what a form would do, or a page.
+// What the rest of a path behind "/pages" asks for: a copy, a form that is entered, what a form would do, an export,
+// or a page.
 fn rest_wish(
     router: &Router<Route>,
     method: &[u8],
@@ -196,6 +217,9 @@ fn rest_wish(
         "/backup" => copy_wish(method),
         "/commands" => form_wish(form_length(method, head, headers), fresh),
         "/previews" => preview_wish(form_length(method, head, headers), fresh),
+        "/due.ics" => export_wish(Export::Calendar, method, query, fresh),
+        "/due.csv" => export_wish(Export::Csv, method, query, fresh),
+        "/due.json" => export_wish(Export::Json, method, query, fresh),
         _ => page_wish(router, method, rest, query, fresh),
     }
 }

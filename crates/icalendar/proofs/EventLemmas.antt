@@ -99,7 +99,16 @@ head_is_lines =
         literal (codes "VERSION:2.0") refl refl,
         (
           literal (codes "PRODID:-//Wogzenay//docketctl//EN") refl refl,
-          (literal (codes "CALSCALE:GREGORIAN") refl refl, tt),
+          (
+            literal (codes "CALSCALE:GREGORIAN") refl refl,
+            (
+              literal (codes "X-WR-CALNAME:Court deadlines") refl refl,
+              (
+                literal (codes "REFRESH-INTERVAL;VALUE=DURATION:PT1H") refl refl,
+                (literal (codes "X-PUBLISHED-TTL:PT1H") refl refl, tt),
+              ),
+            ),
+          ),
         ),
       ),
     )

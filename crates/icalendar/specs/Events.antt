@@ -32,13 +32,17 @@ event_lines uid stamp end summary description =
 abbrev pub event_text : List ℕ → ℤ → End → List ℕ → List ℕ → List ℕ
 event_text uid stamp end summary description = flat_map content_line (event_lines uid stamp end summary description)
 
--- the lines before the events of a calendar
+-- the lines before the events of a calendar: it is published (section 3.7.2) under a name, and a program that subscribes reads it again
+-- each hour (RFC 7986, section 5.7). Older programs read the lines that begin with X-
 abbrev pub head_lines : List (List ℕ)
 head_lines =
     codes "BEGIN:VCALENDAR"
     ∷ codes "VERSION:2.0"
     ∷ codes "PRODID:-//Wogzenay//docketctl//EN"
     ∷ codes "CALSCALE:GREGORIAN"
+    ∷ codes "X-WR-CALNAME:Court deadlines"
+    ∷ codes "REFRESH-INTERVAL;VALUE=DURATION:PT1H"
+    ∷ codes "X-PUBLISHED-TTL:PT1H"
     ∷ []
 
 abbrev pub calendar_head : List ℕ

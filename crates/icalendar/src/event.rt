@@ -65,11 +65,14 @@ pub fn event_text(alloc: Global, event: &Event) -> Result<String, AllocError>
     Ok(text)
 }
 
-/// The text before the events of a calendar.
+/// The text before the events of a calendar, which tells its name and how often a program that
+/// subscribes to it reads it again.
 pub fn calendar_head() -> &'static str
     ensures { result.now ≡ calendar_head }
 {
-    "BEGIN:VCALENDAR\r\nVERSION:2.0\r\nPRODID:-//Wogzenay//docketctl//EN\r\nCALSCALE:GREGORIAN\r\n"
+    "BEGIN:VCALENDAR\r\nVERSION:2.0\r\nPRODID:-//Wogzenay//docketctl//EN\r\nCALSCALE:GREGORIAN\r\n\
+     X-WR-CALNAME:Court deadlines\r\n\
+     REFRESH-INTERVAL;VALUE=DURATION:PT1H\r\nX-PUBLISHED-TTL:PT1H\r\n"
 }
 
 /// The text behind them.

@@ -1,4 +1,4 @@
--- What went out of a calendar or an export is a text, or a prefix of it.
+-- What went out of a calendar is its text, or a prefix of it.
 use Rattle.std.proofs.Common.{ℕ, List, Option, Result, Ok, Err}
 use Rattle.court_days.specs.Court.{CourtSettings}
 use Rattle.docket_applying.specs.declared.fault.Fault.TheVariants.{Refused, NoMemory, StoreFailed, Closed, Damaged}
@@ -6,9 +6,7 @@ use Rattle.docket_applying.specs.declared.listing.CalendarEnd.{CalendarEnd}
 use Rattle.docket_applying.specs.declared.listing.CalendarEnd.TheVariants.{Store, WriteFailed}
 use Rattle.docket_calendar.specs.Calendar.{text_of_calendar}
 use Rattle.docket_history.specs.Histories.{History}
-use Rattle.file_questions.specs.Exports.{ExportsTo, text_of_export}
 use Rattle.file_questions.specs.Tells.{ListsTo}
-use Rattle.file_questions.specs.declared.exporting.Export.{Export}
 use Rattle.job_runs.specs.Asked.{GoesOut}
 
 pub calendar_out : (court : CourtSettings) (h : History) (from to : ℕ) (before after : Option (List ℕ)) (end : Result ℕ CalendarEnd) → ListsTo court h from to before after end
@@ -20,8 +18,3 @@ calendar_out court h from to before after (Err (Store StoreFailed)) is = is
 calendar_out court h from to before after (Err (Store Closed)) is = absurd is
 calendar_out court h from to before after (Err (Store Damaged)) is = absurd is
 calendar_out court h from to before after (Err WriteFailed) is = is
-
-pub export_out : (export : Export) (court : CourtSettings) (h : History) (before after : Option (List ℕ)) (end : Result ℕ CalendarEnd) → ExportsTo export court h before after end
-    → GoesOut (text_of_export export court h) before after end
-export_out export court h before after (Ok entries) is = is.0.0
-export_out export court h before after (Err end) is = is.0

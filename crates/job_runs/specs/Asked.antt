@@ -25,6 +25,6 @@ module _ {D : Type 0} {g : Ghosts D} {T : Type 0} where
   abbrev pub IfUnasked : {Y : Type 0} → Type 0 → Result (Ended D T AdoptFault g) Y → Type 0
   IfUnasked P ended = MatchResult ended (λ it. IfErr it.outcome (λ _. P)) (λ _. P)
 
--- a text went out, or a prefix of it, where the docket or the writer failed
-abbrev pub GoesOut : {N : Type 0} → List ℕ → Option (List ℕ) → Option (List ℕ) → Result N CalendarEnd → Type 0
+-- a calendar went out, or a prefix of it, where the docket or the writer failed
+abbrev pub GoesOut : List ℕ → Option (List ℕ) → Option (List ℕ) → Result ℕ CalendarEnd → Type 0
 GoesOut wanted before after end = MatchResult end (λ _. Appends before after wanted) (λ _. HasFront before after wanted)

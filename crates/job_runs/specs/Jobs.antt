@@ -1,5 +1,5 @@
 -- What each job does, by what the files of its docket held, by what its input was, and by what went out on its writer.
-use Rattle.std.specs.Prelude.{◌≡◌, ◌≢◌, ◌⊎◌, ℕ, ℤ, Bool, true, false, List, [], Option, Some, None, Result, Ok, Err, IfSome, MatchOption, codes, option_copied}
+use Rattle.std.specs.Prelude.{◌≡◌, ◌≢◌, ◌⊎◌, ℕ, ℤ, Bool, true, false, if◌then◌else◌, List, [], Option, Some, None, Result, Ok, Err, IfSome, MatchOption, codes, option_copied}
 use Rattle.std.specs.Cow.{cow_str_bytes}
 use Rattle.std.specs.Io.KnownBytes.{Appends}
 use Rattle.sqlite_disk.specs.declared.Disk.{Ghosts}
@@ -29,7 +29,12 @@ use Rattle.docket_applying.specs.declared.fault.Fault.{Fault}
 use Rattle.docket_store.specs.declared.migrating.MigrateFault.{MigrateFault}
 use Rattle.docket_tables.specs.Layouts.{Rows}
 use Rattle.docket_tables.specs.Stands.{IsImageIn}
+use Rattle.docket_questions.specs.Dues.{text_of_dues}
+use Rattle.docket_questions.specs.Searches.{text_of_found}
 use Rattle.docket_questions.specs.Texts.{page_of_sheet, text_of_case, text_of_reasons}
+use Rattle.docket_questions.specs.declared.dues.DueDays.TheVariants.{Between, By}
+use Rattle.docket_questions.specs.declared.dues.DueForm.{DueForm}
+use Rattle.docket_questions.specs.declared.dues.DueForm.TheVariants.{Calendar, Long, Export}
 use Rattle.docket_text.specs.CourtCalendar.{court_calendar_text}
 use Rattle.docket_text.specs.HolidayTexts.{holiday_text}
 use Rattle.docket_text.specs.RuleTexts.{rules_text}
@@ -39,10 +44,8 @@ use Rattle.docket_applying.specs.CourtDockets.{CourtDocket as Docket}
 use Rattle.command_lines.specs.Lines.{bad_answers, docket_after, run_text}
 use Rattle.command_lines.specs.declared.fault.RunFault.{RunFault}
 use Rattle.file_questions.specs.CaseLists.{cases_told}
-use Rattle.file_questions.specs.Due.{text_of_due}
 use Rattle.file_changes.specs.Commands.{AppliesTo}
 use Rattle.file_changes.specs.Entering.{line_prepared}
-use Rattle.file_questions.specs.Exports.{text_of_export}
 use Rattle.file_dockets.specs.Keeping.{Keeps, rows_told}
 use Rattle.docket_store.specs.Left.{Leaves, LeavesRows}
 use Rattle.file_changes.specs.Migrates.{MigratesTo}
@@ -129,10 +132,15 @@ RunsInMemory docket input before after BadLine = ⊥
 RunsInMemory docket input before after Failed =
     (mid : Option (List ℕ)) × HasFront before mid (run_text docket input) × (fault : RunFault) × AppendsFront mid after (last_line fault)
 
+-- the lines in which a calendar has its deadlines
+abbrev pub lines_of : Bool → DueForm
+lines_of long = if long then Long else Calendar
+
 -- what a job prints on the standard error where nothing was found that it was asked for
 abbrev pub IfMissing : Job → Status → Option (List ℕ) → Option (List ℕ) → Type 0
 IfMissing (job.Case file number) = SaysMissing no_such_case
 IfMissing (job.Cases file label party) = SaysMissing no_such_case
+IfMissing (job.Find file words) = SaysMissing no_such_case
 IfMissing (job.Explain file case deadline) = SaysMissing no_such_deadline
 IfMissing (job.Sheet file number) = SaysMissing no_such_case
 IfMissing _ = λ status before after. Unit {0}
@@ -178,6 +186,13 @@ module _ {D : Type 0} {g : Ghosts D} where
       × OfDocket files (λ docket. FailsOr end (λ left. Enters (LeavesRows left) docket entry before after end.status))
       × (cow_str_bytes end.text ≡ [])
 
+  -- long lines are printed; others go out before the files are closed
+  abbrev pub DoesCalendar : Bool → Image → ℕ → ℕ → Option (List ℕ) → Option (List ℕ) → JobEnd D g → Type 0
+  DoesCalendar true files from to before after end =
+      OfDocket files (λ docket. TellsOf docket (TellsText (text_of_dues docket.court docket.history Long (Between from to))) end) × (after ≡ before)
+  DoesCalendar false files from to before after end =
+      IfUnopened end (after ≡ before) × OfDocket files (λ docket. TellsOf docket (HasTold (text_of_calendar docket.court docket.history from to) before after) end)
+
   -- what a job does: the files of its docket held this, its input and its output were these, and it ended so
   abbrev pub Does : Job → Image → Option (List ℕ) → Option (List ℕ) → Option (List ℕ) → JobEnd D g → Type 0
   Does job.Count files input before after end = IfSome input (λ bytes. Counts bytes before after end.status) × (cow_str_bytes end.text ≡ []) × (end.left ≡ None)
@@ -202,15 +217,17 @@ module _ {D : Type 0} {g : Ghosts D} where
       OfDocket files (λ docket. TellsOf docket (TellsIfAny (text_of_case docket.court docket.history number)) end) × (after ≡ before)
   Does (job.Cases file label party) files input before after end =
       IfUnopened end (after ≡ before) × OfDocket files (λ docket. TellsOf docket (HasListed (cases_told docket.history (option_copied label) (option_copied party)) before after) end)
-  Does (job.Calendar file from to) files input before after end =
-      IfUnopened end (after ≡ before) × OfDocket files (λ docket. TellsOf docket (HasTold (text_of_calendar docket.court docket.history from to) before after) end)
-  Does (job.CalendarOf file due) files input before after end =
-      IfUnopened end (after ≡ before) × ((clock : ℤ) × OfDocket files (λ docket. TellsOf docket (HasTold (text_of_due docket.court docket.history due clock) before after) end))
+  Does (job.Find file words) files input before after end =
+      OfDocket files (λ docket. TellsOf docket (TellsIfAny (text_of_found docket.history words.now)) end) × (after ≡ before)
+  Does (job.Calendar file from to long) files input before after end = DoesCalendar long files from to before after end
+  -- by what the clock shows: that says which day is today
+  Does (job.CalendarOf file due long) files input before after end =
+      ((clock : ℤ) × OfDocket files (λ docket. TellsOf docket (TellsText (text_of_dues docket.court docket.history (lines_of long) (By due clock))) end)) × (after ≡ before)
   Does (job.Explain file case deadline) files input before after end =
       OfDocket files (λ docket. TellsOf docket (TellsIfAny (text_of_reasons docket.court docket.history case deadline)) end) × (after ≡ before)
+  -- the stamp is what the clock shows
   Does (job.Export file from to form) files input before after end =
-      IfUnopened end (after ≡ before)
-      × ((stamp : ℤ) × OfDocket files (λ docket. TellsOf docket (HasTold (text_of_export (record { from = from; to = to; form = form; stamp = stamp }) docket.court docket.history) before after) end))
+      ((stamp : ℤ) × OfDocket files (λ docket. TellsOf docket (TellsText (text_of_dues docket.court docket.history (Export form stamp) (Between from to))) end)) × (after ≡ before)
   Does (job.Sheet file number) files input before after end =
       OfDocket files (λ docket. TellsOf docket (TellsIfAny (page_of_sheet docket.court docket.history number)) end) × (after ≡ before)
   Does job.ExplainLines files input before after end = IfSome input (λ bytes. Explains bytes before after end.status) × (cow_str_bytes end.text ≡ []) × (end.left ≡ None)

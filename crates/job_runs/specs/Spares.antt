@@ -109,8 +109,9 @@ module _ {D : Type 0} {g : Ghosts D} where
   Spares (job.Rules (Some file)) files input unwritten = SparesAsked file.now files
   Spares (job.Case file number) files input unwritten = SparesAsked file.now files
   Spares (job.Cases file label party) files input unwritten = SparesAsked file.now files
-  Spares (job.Calendar file from to) files input unwritten = SparesAsked file.now files
-  Spares (job.CalendarOf file due) files input unwritten = SparesAsked file.now files
+  Spares (job.Find file words) files input unwritten = SparesAsked file.now files
+  Spares (job.Calendar file from to long) files input unwritten = SparesAsked file.now files
+  Spares (job.CalendarOf file due long) files input unwritten = SparesAsked file.now files
   Spares (job.Explain file case deadline) files input unwritten = SparesAsked file.now files
   Spares (job.Export file from to form) files input unwritten = SparesAsked file.now files
   Spares (job.Sheet file number) files input unwritten = SparesAsked file.now files

@@ -1,19 +1,16 @@
 //! What a job asks of the docket in a file.
-ghost use Rattle.std.specs.Prelude.{◌≡◌, [], ℕ, List, Option, IfErr, MatchResult, OnOk};
+ghost use Rattle.std.specs.Prelude.{◌≡◌, IfErr, MatchResult, OnOk};
 ghost use Rattle.std.specs.Cow.{cow_str_bytes};
 ghost use Rattle.sqlite_wal.specs.Files.{image_at};
 ghost use Rattle.job_ends.specs.Ends.{TellsNothing};
-ghost use Rattle.job_runs.specs.Asked.{GoesOut, IsAnswered};
+ghost use Rattle.job_runs.specs.Asked.{IsAnswered};
 ghost use Rattle.job_runs.specs.Jobs.{OfDocket};
 ghost use Rattle.job_runs.specs.Spares.{SparesAsked, WereAsked};
-ghost use Rattle.job_runs.specs.Tells.{HasTold};
 
 use crate::opening::ready;
-use docket_store::CalendarEnd;
 use file_questions::{Inquiry, ask_on_file};
-use job_ends::{JobEnd, Status, done_on_docket, failed};
+use job_ends::{JobEnd, done_on_docket};
 use sqlite::{FileFrom, Leftover, Start};
-use std::alloc::Global;
 use std::io::Write;
 
 /// Opens the file at a path, asks its docket and closes that. Returns the answer and what is left of the
@@ -39,19 +36,4 @@ pub(crate) fn ask<S: Start, P: Write + Drop, W, Q: Inquiry<W>, E: Write>(
     };
     let ended = ask_on_file(rt, path, start, rows, inquiry, w);
     done_on_docket(rt.alloc(), path, ended, e)
-}
-
-/// Returns how a job ends from how the writing of its text ended, and prints why that failed.
-pub(crate) fn writing_status<N: Copy, E: Write>(
-    alloc: Global,
-    end: Result<N, CalendarEnd>,
-    e: &mut E,
-) -> Status
-    ensures { (wanted : List ℕ) (before after : Option (List ℕ)) → GoesOut wanted before after end → HasTold wanted before after [] result }
-{
-    match end {
-        Ok(_) => Status::Done,
-        Err(CalendarEnd::Store(fault)) => failed(alloc, e, &fault),
-        Err(CalendarEnd::WriteFailed) => failed(alloc, e, &"the output could not be written"),
-    }
 }

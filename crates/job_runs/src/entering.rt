@@ -13,8 +13,8 @@ ghost use Rattle.job_runs.specs.Spares.{SparesAsked, SparesEntry, SparesRun};
 ghost use Rattle.job_runs.specs.Tells.{TellsText};
 
 use crate::asking::ask;
+use crate::clock::seconds_now;
 use crate::command::tell_end;
-use crate::export::seconds_now;
 use crate::opening::ready;
 use command_forms::FieldText;
 use command_lines::RunFault;

@@ -6,15 +6,14 @@ ghost use Rattle.job_runs.specs.Jobs.{Counts, Does, IfMissing};
 ghost use Rattle.job_runs.specs.Spares.{Spares};
 
 use crate::backup::back_up;
-use crate::calendar::tell_calendar;
+use crate::calendar::{lines_of, tell_days};
 use crate::cases::tell_cases;
 use crate::check::tell_check;
+use crate::clock::seconds_now;
 use crate::command::{run_commands, run_in_memory};
 use crate::create::create_docket;
-use crate::due::tell_due;
 use crate::entering::enter_words;
 use crate::explain::explain_all;
-use crate::export::tell_export;
 use crate::holiday::tell_holidays;
 use crate::import::import_days;
 use crate::kinds::tell_kinds;
@@ -25,7 +24,10 @@ use crate::serving::{serve_docket, service_of};
 use crate::text::{NO_SUCH_CASE, NO_SUCH_DEADLINE, tell_text};
 use count_lines::count_run;
 use docket_jobs::Job;
-use docket_questions::{CaseSheet, CaseText, CourtCalendarText, ReasonsText, RulesText};
+use docket_questions::{
+    CaseSheet, CaseText, CourtCalendarText, DueDays, DueForm, Dues, FoundCases, ReasonsText,
+    RulesText,
+};
 use file_questions::Wanted;
 use job_ends::{JobEnd, Status, failed};
 use sqlite::{FileFrom, Start};
@@ -107,13 +109,26 @@ pub fn run_job<S: Start, P: Write + Drop, R: Read, W: Write + Drop, E: Write>(
             let end = tell_cases(rt, start, screen, file, &wanted, &mut w, e);
             (end, w)
         }
-        Job::Calendar { file, from, to } => {
-            let end = tell_calendar(rt, start, screen, file, from, to, &mut w, e);
+        Job::Find { file, words } => {
+            let found = FoundCases { words };
+            let end = tell_text(rt, start, screen, file, found, NO_SUCH_CASE, e);
             (end, w)
         }
-        Job::CalendarOf { file, due } => {
-            let end = tell_due(rt, start, screen, file, due, &mut w, e);
+        Job::Calendar {
+            file,
+            from,
+            to,
+            long,
+        } => {
+            let end = tell_days(rt, start, screen, file, from, to, long, &mut w, e);
             (end, w)
+        }
+        Job::CalendarOf { file, due, long } => {
+            let clock = seconds_now(rt);
+            let form = lines_of(long);
+            let days = DueDays::By(due, clock);
+            let listed = tell_text(rt, start, screen, file, Dues { form, days }, "", e);
+            (listed, w)
         }
         Job::Explain {
             file,
@@ -130,8 +145,11 @@ pub fn run_job<S: Start, P: Write + Drop, R: Read, W: Write + Drop, E: Write>(
             to,
             form,
         } => {
-            let end = tell_export(rt, start, screen, file, from, to, form, &mut w, e);
-            (end, w)
+            let stamp = seconds_now(rt);
+            let form = DueForm::Export(form, stamp);
+            let days = DueDays::Between(from, to);
+            let exported = tell_text(rt, start, screen, file, Dues { form, days }, "", e);
+            (exported, w)
         }
         Job::Sheet { file, number } => {
             let sheet = CaseSheet { number };

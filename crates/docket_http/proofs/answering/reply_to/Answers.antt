@@ -2,7 +2,7 @@ use Rattle.std.proofs.Common.{ap, inl, inr, refl, subst, sym}
 use Rattle.std.specs.List.{slice_range}
 use Rattle.docket_text.specs.HolidayTexts.{holiday_text}
 use Rattle.http_request.specs.Request.{body_of}
-use Rattle.http_request.specs.declared.wish.Wish.TheVariants.{Reject, Refuse, Command, Form, Preview, Case, Copy, Deadlines, Holidays, Page}
+use Rattle.http_request.specs.declared.wish.Wish.TheVariants.{Reject, Refuse, Command, Form, Preview, Case, Copy, Deadlines, Export, Holidays, Page}
 use Rattle.docket_http.specs.Answer.{fine, problem_page, problem_response, refusal_page}
 use Rattle.docket_http.specs.Asking.{IsBuilt}
 use Rattle.docket_http.specs.declared.head.Form.TheVariants.{Text}
@@ -63,8 +63,14 @@ returns-in-Deadlines g c =
 pub returns-in-Page : goal.returns-in-Page
 returns-in-Page g c =
     let body = body_of c.args.request.now in
-    replies_as g.S.Store c.args.docket.now c.page_reply.new.docket (Page c.in-Page.page) c.args.request.now.wish body body c.page_reply.result
+    replies_as g.S.Store c.args.docket.now c.page_reply.new.docket (Page c.in-Page.page c.in-Page.fresh) c.args.request.now.wish body body c.page_reply.result
     (sym c.in-Page.is) refl (c.page_reply.ensures body)
+
+pub returns-in-Export : goal.returns-in-Export
+returns-in-Export g c =
+    let body = body_of c.args.request.now in
+    replies_as g.S.Store c.args.docket.now c.export_reply.new.docket (Export c.in-Export.export c.in-Export.days c.in-Export.fresh) c.args.request.now.wish body body c.export_reply.result
+    (sym c.in-Export.is) refl (c.export_reply.ensures body)
 
 pub returns-in-Holidays : goal.returns-in-Holidays
 returns-in-Holidays g c =

@@ -7,5 +7,5 @@ use Rattle.docket_jobs.proofs.command_line.with_usage.Goals as goal
 abbrev globals : Command-F Command → Bool
 globals fields = fields.has_globals
 
-pub returns : goal.returns
-returns c line has = (ap app_of_fields c.override_usage.ensures ∙ has.0, ap globals c.override_usage.ensures ∙ has.1)
+pub returns-in-Enter : goal.returns-in-Enter
+returns-in-Enter c line has = (ap app_of_fields c.override_usage.ensures ∙ has.0, ap globals c.override_usage.ensures ∙ has.1)

@@ -2,7 +2,8 @@ use Rattle.std.proofs.Common.{◌≡◌, drop, map}
 use Rattle.clap.specs.Simple.{app_of}
 use Rattle.clap.specs.declared.builder.command.Command.TheViews.{out-Command as fields_of}
 use Rattle.command_forms.specs.Entered.{spec_of}
-use Rattle.docket_jobs.specs.EntryLine.{field_rule, with_rules}
+use Rattle.docket_jobs.specs.CommandLine.{with_rules}
+use Rattle.docket_jobs.specs.EntryLine.{field_rule}
 use Rattle.docket_jobs.proofs.entry_line.with_fields.Given as goal
 
 -- the command so far with the fields that are left is the command with all of them

@@ -1,7 +1,14 @@
 use Rattle.std.proofs.Common.{◌∙◌, sym}
-use Rattle.docket_questions.proofs.NewestLemmas.{none_labelled}
+use Rattle.docket_questions.proofs.NewestLemmas.{none_labelled, one_labelled}
 use Rattle.docket_questions.proofs.TellLemmas.{asks_more, clean_before, passed_told, short_told, then_told}
 use Rattle.docket_questions.proofs.search.found_cases.Goals as goal
+
+pub returns-in_ok-found-in-Some-clause-answer : goal.returns-in_ok-found-in-Some-clause-answer
+returns-in_ok-found-in-Some-clause-answer g c h stands =
+    let labelled = c.in_ok-case.ensures.answer h stands in (
+      labelled.0,
+      λ clean some. one_labelled h c.args.words.now c.args.most c.in-Some.case c.in_ok-found-in-Some.found.items some c.in_ok-found-in-Some.ensures.items (sym (labelled.1 clean) ∙ c.in-Some.is),
+    )
 
 pub returns-in_ok-count-in-None-clause-answer : goal.returns-in_ok-count-in-None-clause-answer
 returns-in_ok-count-in-None-clause-answer g c h stands =
@@ -11,9 +18,9 @@ returns-in_ok-count-in-None-clause-answer g c h stands =
     let counted = second.answer h labelled.0 in
     let found = c.newest_cases.ensures in
     asks_more g.S.Store c.newest_cases.new.docket h _ _ c.newest_cases.result
-    (λ clean cases told.
+    (λ clean cases told some.
     let seen = clean_before _ _ (found.only counted.0.serves).clean clean in
-    none_labelled h c.args.words.now c.in_ok-count-in-None.count cases.items (counted.1 seen) (sym (labelled.1 (clean_before _ _ second.only.clean seen)) ∙ c.in-None.is) told)
+    none_labelled h c.args.words.now c.args.most c.in_ok-count-in-None.count cases.items (counted.1 seen) (sym (labelled.1 (clean_before _ _ second.only.clean seen)) ∙ c.in-None.is) told)
     (found.answer h counted.0)
 
 pub returns-in_err-case-clause-only : goal.returns-in_err-case-clause-only

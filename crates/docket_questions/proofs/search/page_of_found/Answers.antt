@@ -10,4 +10,4 @@ pub returns : goal.returns
 returns c =
     let found = c.args.found.now in
     let shown : take c.min-shown.result found ≡ take 100 found = ap (λ (n : ℕ). take n found) (c.min-shown.ensures ∙ min_comm (length found) 100) ∙ take_min 100 found in
-    subst (λ (cases : List CaseRow). IfOk c.search_page.result (λ page. string_bytes page ≡ search_page c.args.words.now cases (nat_lt 100 (length found)))) shown c.search_page.ensures
+    subst (λ (cases : List CaseRow). IfOk c.search_page.result (λ page. string_bytes page ≡ search_page c.args.words.now cases (nat_lt 100 (length found)) c.args.day)) shown c.search_page.ensures

@@ -15,7 +15,7 @@ returns-in-Ok g c = record {
       let after = g.W.Write.contents c.ask.new.w in
       tells c.with.result c.in-Ok.left c.with.ensures.left docket _ (HasTold wanted before after) _ _ (ap cow_str_bytes c.with.ensures.text ∙ c.of.ensures.text) (c.with.ensures.status ∙ c.of.ensures.status)
       (c.in-Ok.ensures.told docket is files)
-      (λ lists. c.writing_status.ensures wanted before after (calendar_out docket.court docket.history c.args.from c.args.to before after c.in-Ok.end lists));
+      (λ lists. c.calendar_told.ensures wanted before after (calendar_out docket.court docket.history c.args.from c.args.to before after c.in-Ok.end lists));
   unopened = some_left c.with.result.left c.in-Ok.left _ (λ left. Unit {0}) c.with.ensures.left tt;
   spared = spares c.with.result c.in-Ok.left c.with.ensures.left c.args.path.now _ _ _ c.in-Ok.ensures.spared;
 }

@@ -11,7 +11,7 @@ returns-clause-answer g c h stands =
     let asked = first.answer h stands in
     let cases = found.answer h asked.0 in (
       cases.0,
-      λ clean. ap Some (paged c.args.docket.now.court h stands.docket.history c.args.self.now.before c.in_ok-count.count c.last_before-last.result c.as_slice.result.now
+      λ clean. ap Some (paged c.args.docket.now.court h stands.docket.history c.args.self.now.before c.args.self.now.day c.in_ok-count.count c.last_before-last.result c.as_slice.result.now
           c.newer.result c.older.result (string_bytes c.in_ok-page.page) (asked.1 (clean_before _ _ (found.only asked.0.serves).clean clean))
           c.last_before-last.ensures (λ less. c.as_slice.ensures.value ∙ cases.1 clean less) c.newer.ensures c.older.ensures c.in_ok-page.ensures),
     )

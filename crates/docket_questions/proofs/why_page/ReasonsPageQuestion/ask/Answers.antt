@@ -15,12 +15,13 @@ returns-clause-answer g c h stands =
     let asked = c.in_ok-grounds.ensures.answer h stands in
     let case = c.args.self.now.case in
     let number = c.args.self.now.deadline in
+    let day = c.args.self.now.day in
     let grounds = c.in-Some.grounds in
     let now = c.court-court.result.now in (
       asked.0,
-      λ clean. paged_reasons c.args.docket.now.court now h case number grounds (string_bytes c.in_ok-text.text) (string_bytes c.in_ok-page.page) c.filed-filed.result
+      λ clean. paged_reasons c.args.docket.now.court now h case number day grounds (string_bytes c.in_ok-text.text) (string_bytes c.in_ok-page.page) c.filed-filed.result
           (c.court-court.ensures ∙ c.grounds.ensures.only.court) c.in_ok-text.ensures (c.filed-filed.ensures ∙ ap (filed now grounds.calendar) c.as_slice.ensures)
-          (c.in_ok-page.ensures ∙ ap (λ (text : List ℕ). reasons_page case number text c.filed-filed.result) c.deref.ensures)
+          (c.in_ok-page.ensures ∙ ap (λ (text : List ℕ). reasons_page case number text c.filed-filed.result day) c.deref.ensures)
           (subst (AreGrounds h case number) c.in-Some.is (asked.1 clean)),
     )
 
