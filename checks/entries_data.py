@@ -7,7 +7,8 @@ import os
 from urllib.parse import urlencode
 
 from entries_model import KINDS, TITLES, WORDS, entry, kinds_page
-from pages_model import (TOP, answer, case_sheet, cases_table, cell, deadline_page, entering, error, got, head, lines, literals, missing, number, page, posted, refusal, reply, rows, shown, spec, store, told)
+from exports_model import exported, written_csv, written_json
+from pages_model import (TOP, answer, case_sheet, cases_table, cell, dated, deadline_page, entering, error, got, head, lines, literals, missing, number, page, posted, refusal, reply, rows, shown, spec, store, told)
 
 TYPE = "Content-Type: application/x-www-form-urlencoded\r\n"
 HOSTILE = "\"><script>alert('1')</script> & 100 % + Ünal"
@@ -186,18 +187,23 @@ def commands():
 def sheet(standing):
     """The docket sheet of case 1, and where its deadline stands."""
     case = (1, CASE["label"], CASE["filed"], HOSTILE)
-    return got("/pages/cases/1"), shown(page(CASE["label"], case_sheet(case, [("defendant", NAME)], [("2025-06-02", "<i> a&b")], [(1, "12(a)(1)(A)(i)", standing)])))
+    content = case_sheet(case, [("defendant", NAME)], [("2025-06-02", "<i> a&b")], [(1, "12(a)(1)(A)(i)", standing)])
+    return got("/pages/cases/1"), dated(lambda on: page(CASE["label"], content, on=on))
 
 
 def pages():
     """What was entered, on the pages to which the forms lead."""
     yield sheet("due 2025-07-07 24:00 17:00")
-    yield got("/pages"), shown(page("Cases", cases_table([(2, "2", "2025-06-03", "Roe v. Doe\ufffd;x"), (1, CASE["label"], "2025-06-02", HOSTILE)])))
+    cases = cases_table([(2, "2", "2025-06-03", "Roe v. Doe\ufffd;x"), (1, CASE["label"], "2025-06-02", HOSTILE)])
+    yield got("/pages"), dated(lambda on: page("Cases", cases, on=on))
     days = rows(("Row", "Entered", "Name"), [head(1) + number(told("state 2025-11-28")) + cell(told("Day after Thanksgiving"))])
     for query in ("", "?x"):
-        yield got("/pages/court-days" + query), shown(page("Court days", entering({}, "calendar_kinds") + days))
-    yield got("/pages/rules"), shown(page("Rules", lines(rules() + "LR7.1-opp          14 days   backward -          -          extendable\n")))
-    yield got("/pages/cases/1/deadlines/1"), shown(deadline_page(1, 1, COUNTED + DUE))
+        yield got("/pages/court-days" + query), dated(lambda on: page("Court days", entering({}, "calendar_kinds") + days, on=on))
+    yield got("/pages/rules"), dated(lambda on: page("Rules", lines(rules() + "LR7.1-opp          14 days   backward -          -          extendable\n"), on=on))
+    yield got("/pages/cases/1/deadlines/1"), dated(lambda on: deadline_page(1, 1, COUNTED + DUE, on))
+    # on the second of the days that are shown, there are not 35 days before
+    yield got("/pages/due.csv"), exported("csv", written_csv([], []))
+    yield got("/pages/due.json"), exported("json", written_json([], []))
     for path in ("1/deadlines/2", "9/deadlines/1", "1/deadlines/4294967295"):
         yield got(f"/pages/cases/{path}"), missing()
     for path in ("1/deadlines/0", "1/deadlines/01", "x/deadlines/1", "1/deadlines/", "1/deadlines/1/", "1/deadlines/1/2"):

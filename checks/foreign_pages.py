@@ -15,7 +15,7 @@ const asked = [
   ["/commands", {{method: "POST", mode: "no-cors", headers: {{"content-type": "text/plain"}}, body: command("text")}}],
   ["/commands", {{method: "POST", mode: "no-cors", body: new URLSearchParams({{do: "open_case"}})}}],
   ["/commands", {{method: "POST", body: command("cors")}}],
-  ["/pages", {{}}], ["/pages/backup", {{}}], ["/pages/backup", {{mode: "no-cors"}}]];
+  ["/pages", {{}}], ["/pages/due.json", {{}}], ["/pages/backup", {{}}], ["/pages/backup", {{mode: "no-cors"}}]];
 form.submit();
 (async () => {{
   const read = [];

@@ -61,6 +61,9 @@ NARROW = """(() => {
   return root.scrollWidth <= most && !wide.length ? [] : [`${root.scrollWidth} of ${most} wide: ` + wide.slice(-3).map(one => one.outerHTML.slice(0, 80)).join(" ")];
 })()"""
 
+# the day of printing, where it is seen
+DATED = "[...document.querySelectorAll('main > p.printed')].filter(one => one.checkVisibility()).map(one => one.innerText)"
+
 # what is left out on paper
 PRINTED = """[...document.querySelectorAll("nav, main form")].filter(one => one.checkVisibility()).map(one => one.outerHTML.slice(0, 80))"""
 
@@ -88,7 +91,7 @@ FILL = """((texts, unasked) => {
 # what a form would do; why a deadline stands as it does, and whether what was filed was in time; the texts of each row of a table
 WOULD = "document.querySelector('[role=status] pre')?.textContent"
 STEPS = "document.querySelector('main > pre')?.textContent"
-FILED = "[...document.querySelectorAll('main > p')].slice(1).map(one => one.innerText)"
+FILED = "[...document.querySelectorAll('main > p:not(.printed)')].slice(1).map(one => one.innerText)"
 ROWS = "[...document.querySelectorAll('tbody tr')].map(row => [...row.cells].map(cell => cell.innerText.trim()))"
 ALERT = "[...document.querySelectorAll('[role=alert]')].map(one => one.innerText.trim())"
 FOCUS = """(() => { const one = document.activeElement, style = getComputedStyle(one);

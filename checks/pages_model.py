@@ -4,7 +4,8 @@ import html
 import json
 import os
 import re
-from datetime import date
+from datetime import date, datetime
+from zoneinfo import ZoneInfo
 
 TOP = os.path.dirname(os.path.dirname(os.path.realpath(__file__)))
 WEEKDAYS = ("Mon", "Tue", "Wed", "Thu", "Fri", "Sat", "Sun")
@@ -60,8 +61,12 @@ def day(text):
     return f"<time>{text}</time>"
 
 
+def weekday_word(text):
+    return WEEKDAYS[date.fromisoformat(text).weekday()]
+
+
 def weekday(text):
-    return f"{day(text)} {WEEKDAYS[date.fromisoformat(text).weekday()]}"
+    return f"{day(text)} {weekday_word(text)}"
 
 
 def rows(columns, rows_of):
@@ -188,25 +193,33 @@ def days_away(text, count):
     return str(date.fromordinal(min(max(away, date(1980, 1, 1).toordinal()), date(3999, 12, 31).toordinal())))
 
 
-def days_page(first, last, listed, cases, names, title=""):
+def exports_nav(first, last):
+    """Links to what is due on some days as files for other programs; a calendar to which one subscribes has days of its own."""
+    days = f"?from={first}&amp;to={last}"
+    return nav("Exports", " ".join((link("due.ics", "Calendar to subscribe to"), link("due.csv" + days, "CSV"), link("due.json" + days, "JSON"))))
+
+
+def days_page(first, last, listed, cases, names, on, title=""):
     """What is due on some days, with links to those a week before and after; a list with a title of its own has none."""
     weeks = " ".join(link(f"calendar/{days_away(first, by)}/{days_away(last, by)}", words) for by, words in ((-7, "Week before"), (7, "Week after")))
     zone = f"<p>Times are local, in the zone {told(ZONE)}</p>\n"
-    return page(title or "Deadlines", days_told(first, last) + zone + ("" if title else nav("Other weeks", weeks)) + due_table(listed, cases, names))
+    content = days_told(first, last) + zone + ("" if title else nav("Other weeks", weeks)) + due_table(listed, cases, names) + exports_nav(first, last)
+    return page(title or "Deadlines", content, on=on)
 
 
-def deadline_page(case, deadline, steps, filed=""):
+def deadline_page(case, deadline, steps, on, filed=""):
     """Why a deadline stands as it does, and whether what was filed was in time."""
     return page(f"Why deadline {deadline} of case {case} stands as it does",
-                f"<p>Case {case_link(case)}</p>\n{filed}" + entering({"case": case, "deadline": deadline}, "deadline_kinds") + lines(steps))
+                f"<p>Case {case_link(case)}</p>\n{filed}" + entering({"case": case, "deadline": deadline}, "deadline_kinds") + lines(steps), on=on)
 
 
-def page(title, content, beginning=None):
-    """A page whole, whose title is plain text; one of a file has no links on top."""
+def page(title, content, beginning=None, on=""):
+    """A page whole, whose title is plain text; one of a file has no links on top. One that shows the docket has the day on which it does."""
+    printed = f'<p class="printed">Printed on {on} {weekday_word(on)}</p>\n' if on else ""
     return ('<!DOCTYPE html>\n<html lang="en">\n<head>\n<meta charset="utf-8">\n'
             '<meta name="viewport" content="width=device-width, initial-scale=1">\n'
             f"<title>{escaped(title)}</title>\n<style>{STYLE}</style>\n</head>\n<body>\n<main>\n<h1>{told(title)}</h1>\n"
-            f"{site() if beginning is None else beginning}{content}</main>\n</body>\n</html>\n")
+            f"{site() if beginning is None else beginning}{content}{printed}</main>\n</body>\n</html>\n")
 
 
 def lines(text):
@@ -221,6 +234,16 @@ def answer(status, form, body):
 def shown(text, status=200):
     """The answer with a page."""
     return answer(status, f"text/html; charset=utf-8\r\ncontent-security-policy: {POLICY}\r\ncache-control: no-store", text.encode())
+
+
+def day_of(fresh):
+    """The day of a request in the court's zone, by its number, which counts nanoseconds; days are shown from 1980 on."""
+    return str(datetime.fromtimestamp(max(fresh // 10**9, 315_705_600), ZoneInfo("America/New_York")).date())
+
+
+def dated(made):
+    """The answer with a page that is made of the day of its request."""
+    return lambda fresh: shown(made(day_of(fresh)))
 
 
 def missing():
